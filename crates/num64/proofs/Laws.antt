@@ -1,0 +1,185 @@
+-- Laws on whole numbers that the proofs of several functions cite.
+use Prim.Native.Nat.{ℕ, zero, suc, _-_, _*_, _/_, _<_, _≤_, _^_, suc-le-suc}
+use mathlib.Core.Path.{_≡_, refl, sym, ap, _∙_, subst}
+use mathlib.Core.Bool.{Bool, true, false, cond}
+use mathlib.Core.Option.{none, some}
+use native.Mathlib.Omega.{arith}
+use lib.Dec.{T, eqb, ltb, leb·zero}
+use lib.IntN.{ℤ, pos, negsuc, negℤ, natAbs, _+ℤ_, _*ℤ_, negℤ-negℤ}
+use lib.Signed.{mag, leZ, nonNeg, natAbs-le, shrZ, mag-shr}
+use native.Mathlib.Nat.{lt-of-le-of-lt, add-zero, sub-zero, zero-lt-suc, le-div-iff-mul-le, div-lt-iff-lt-mul}
+use borrow.Author.Tests.{lt-ltb, le-ltb, eq-eqb, ne-eqb, eqb-true, eqb-false, ltb-false}
+use mir.Syntax.{w64}
+use mir.Val.{Fits, SFits, toZ, ofZ}
+use mir.Facts.{toZ-ofZ, toZ-pos, toZ-neg}
+use Rattle.num64.specs.declared.Signed64.{Signed64}
+use Rattle.num64.specs.Exact.{eqZ, signOf, fitted, remainder, checkedMul, checkedDiv, checkedRem}
+use Rattle.num64.proofs.Euclid.{rest-lt}
+use Rattle.num64.specs.Steps.{inRange, idxSub, idxMul}
+
+-- ---- a signed number, taken apart
+
+-- the cast of z is allowed, and `sign` of it is a
+abbrev pub Cast : ℤ → (ℕ → ℤ) → ℤ → Type 0
+Cast z sign a = (T (nonNeg z) × Fits w64 (natAbs z)) × (sign (natAbs z) ≡ a)
+
+-- a itself where it is not negative, its bits turned over where it is
+pub up : (a : ℤ) → SFits w64 a → leZ (pos 0) (toZ w64 (ofZ w64 a)) ≡ true → Cast (toZ w64 (ofZ w64 a)) pos a
+up a f = rw (toZ-ofZ f) (go a f)
+  where
+    go : (a : ℤ) → SFits w64 a → leZ (pos 0) a ≡ true → Cast a pos a
+    go (pos n) f t = ((tt, omega arith), refl)
+    go (negsuc n) f t = absurd (subst T (sym t) tt)
+
+pub down : (a : ℤ) → SFits w64 a → leZ (pos 0) (toZ w64 (ofZ w64 a)) ≡ false → Cast (toZ w64 (2 ^ 64 - 1 - ofZ w64 a)) negsuc a
+down a f = rw (toZ-ofZ f) (go a f)
+  where
+    go : (a : ℤ) → SFits w64 a → leZ (pos 0) a ≡ false → Cast (toZ w64 (2 ^ 64 - 1 - ofZ w64 a)) negsuc a
+    go (pos n) f t = absurd (subst T (sym (leb·zero n) ∙ t) tt)
+    go (negsuc n) f t =
+        let e : 2 ^ 64 - 1 - (2 ^ 64 - suc n) ≡ n = omega arith in
+        rw (e, toZ-pos w64 {n = n} (f .sfits)) ((tt, omega arith), refl)
+
+-- the bits of n, turned over, are those of -(n + 1)
+pub toZ-not : (n : ℕ) → n < 2 ^ 63 → toZ w64 (2 ^ 64 - 1 - n) ≡ negsuc n
+toZ-not n h = let e : 2 ^ 64 - 1 - n ≡ 2 ^ 64 - suc n = omega arith in rw e (toZ-neg w64 n h)
+
+pub neg-pos : (n : ℕ) → (n ≡ 0 → ⊥) → negsuc (n - 1) ≡ negℤ (pos n)
+neg-pos zero h = absurd (h refl)
+neg-pos (suc n) h = let e : suc n - 1 ≡ n = omega arith in ap negsuc e
+
+-- m − (n + 1) by its two cases
+pub sub-below : (m n : ℕ) → m ≤ n → negsuc (n - m) ≡ pos m +ℤ negsuc n
+sub-below m n h = let e : n - m ≡ suc n - suc m = omega arith in rw (lt-ltb m (suc n) (omega arith), e)
+
+pub sub-above : (m n : ℕ) → n < m → pos (m - n - 1) ≡ pos m +ℤ negsuc n
+sub-above m n h = let e : m - n - 1 ≡ m - suc n = omega arith in rw (le-ltb m (suc n) h, e)
+
+-- ---- a callee is passed a signed number by its bits
+module _ {a : ℤ} (f : SFits w64 a) {x : ℤ} (e : x ≡ toZ w64 (ofZ w64 a)) where
+  pub passed : x ≡ a
+  passed = e ∙ toZ-ofZ f
+
+  pub mag-passed : mag x < 2 ^ 63
+  mag-passed = rw passed (f .sfits)
+
+  pub abs-passed : natAbs x ≤ 2 ^ 63
+  abs-passed = rw passed (natAbs-le a (f .sfits))
+
+pub passed-abs : {a : ℤ} → SFits w64 a → {n : ℕ} → n ≡ natAbs (toZ w64 (ofZ w64 a)) → n ≡ natAbs a
+passed-abs f e = e ∙ ap natAbs (toZ-ofZ f)
+
+pub abs-floor : (a : ℤ) → SFits w64 a → (d : ℕ) → natAbs (shrZ a d) ≤ 2 ^ 63
+abs-floor a f d = natAbs-le (shrZ a d) (lt-of-le-of-lt (mag-shr a d) (f .sfits))
+
+-- ---- comparison of bits
+
+same : (p q r s : ℕ) → (p ≡ q → r ≡ s) → (r ≡ s → p ≡ q) → eqb p q ≡ eqb r s
+same p q r s f g = go (eqb r s) refl
+  where
+    go : (t : Bool) → eqb r s ≡ t → eqb p q ≡ t
+    go true e = eq-eqb p q (g (eqb-true r s e))
+    go false e = ne-eqb p q (λ h. eqb-false r s e (f h))
+
+pub eq-bits : (a b : ℤ) → SFits w64 a → SFits w64 b → eqb (ofZ w64 a) (ofZ w64 b) ≡ eqZ a b
+eq-bits (pos m) (pos n) f g = refl
+eq-bits (pos m) (negsuc n) f g = ne-eqb m (2 ^ 64 - suc n) (λ e. omega (arith, f .sfits, g .sfits))
+eq-bits (negsuc m) (pos n) f g = ne-eqb (2 ^ 64 - suc m) n (λ e. omega (arith, f .sfits, g .sfits))
+eq-bits (negsuc m) (negsuc n) f g =
+    same (2 ^ 64 - suc m) (2 ^ 64 - suc n) m n (λ e. omega (arith, f .sfits, g .sfits)) (λ e. ap (λ (k : ℕ). 2 ^ 64 - suc k) e)
+
+-- ---- index steps
+
+pub in-range : (n : ℕ) → n < 2 ^ 64 → some (pos n) ≡ inRange (pos n)
+in-range n h = rw (lt-ltb n (2 ^ 64) h)
+
+pub out-of-range : (n : ℕ) → 2 ^ 64 ≤ n → none ≡ inRange (pos n)
+out-of-range n h = rw (le-ltb n (2 ^ 64) h)
+
+pub sub-in : (x y : ℕ) → y ≤ x → x < 2 ^ 64 → some (pos (x - y)) ≡ idxSub (pos x) (pos y)
+unfolding idxSub
+sub-in x zero h k = simp (sub-zero, add-zero) (in-range x k)
+sub-in x (suc y) h k = rw (le-ltb x (suc y) h) (in-range (x - suc y) (omega arith))
+
+pub sub-out : (x y : ℕ) → x < y → none ≡ idxSub (pos x) (pos y)
+unfolding idxSub
+sub-out x zero h = absurd (omega arith)
+sub-out x (suc y) h = rw (lt-ltb x (suc y) h)
+
+-- the product's test by division
+pub mul-in : (x y : ℕ) → (y ≡ 0 → ⊥) → x ≤ (2 ^ 64 - 1) / y → x * y < 2 ^ 64
+mul-in x zero h k = absurd (h refl)
+mul-in x (suc y) h k = suc-le-suc (le-div-iff-mul-le (zero-lt-suc y) .0 k)
+
+pub mul-out : (x y : ℕ) → (y ≡ 0 → ⊥) → (2 ^ 64 - 1) / y < x → 2 ^ 64 ≤ x * y
+mul-out x zero h k = absurd (h refl)
+mul-out x (suc y) h k = div-lt-iff-lt-mul (zero-lt-suc y) .0 k
+
+-- ---- signs
+
+pub abs-neg : (z : ℤ) → natAbs (negℤ z) ≡ natAbs z
+abs-neg (pos zero) = refl
+abs-neg (pos (suc n)) = refl
+abs-neg (negsuc n) = refl
+
+pub abs-sign : (b z : ℤ) → natAbs (signOf b z) ≡ natAbs z
+abs-sign (pos b) z = refl
+abs-sign (negsuc b) z = abs-neg z
+
+-- ---- the product, by its sign and its magnitude
+
+product : (a b : ℤ) → signOf a (signOf b (pos (natAbs a * natAbs b))) ≡ a *ℤ b
+product (pos a) (pos b) = refl
+product (pos a) (negsuc b) = refl
+product (negsuc a) (pos b) = refl
+product (negsuc a) (negsuc b) = negℤ-negℤ (pos (suc a * suc b))
+
+abs-product : (a b : ℤ) → natAbs (a *ℤ b) ≡ natAbs a * natAbs b
+abs-product a b = ap natAbs (sym (product a b)) ∙ abs-sign a (signOf b (pos (natAbs a * natAbs b))) ∙ abs-sign b (pos (natAbs a * natAbs b))
+
+-- what `inRange` answers tells of its number
+value-is : (n p : ℕ) → inRange (pos n) ≡ some (pos p) → p ≡ n
+value-is n p = go (ltb n (2 ^ 64))
+  where
+    go : (t : Bool) → cond t (some (pos n)) none ≡ some (pos p) → p ≡ n
+    go true e = cc
+    go false e = cc
+
+none-is : (n : ℕ) → inRange (pos n) ≡ none → 2 ^ 64 ≤ n
+none-is n = go (ltb n (2 ^ 64)) refl
+  where
+    go : (t : Bool) → ltb n (2 ^ 64) ≡ t → cond t (some (pos n)) none ≡ none → 2 ^ 64 ≤ n
+    go true h e = let z : _≡_ {A = ℕ} 0 1 = cc in omega arith
+    go false h e = ltb-false n (2 ^ 64) h
+
+mag-ge : (z : ℤ) → 2 ^ 64 ≤ natAbs z → 2 ^ 63 ≤ mag z
+mag-ge (pos n) h = omega arith
+mag-ge (negsuc n) h = omega arith
+
+module _ (a b : ℤ) where
+  pub mul-value : (p : ℕ) → idxMul (pos (natAbs a)) (pos (natAbs b)) ≡ some (pos p) → signOf a (signOf b (pos p)) ≡ a *ℤ b
+  unfolding idxMul
+  mul-value p e = rw (value-is (natAbs a * natAbs b) p e) (product a b)
+
+  pub mul-overflow : idxMul (pos (natAbs a)) (pos (natAbs b)) ≡ none → Signed64.Overflow ≡ checkedMul a b
+  unfolding idxMul checkedMul
+  mul-overflow e =
+      rw (le-ltb (mag (a *ℤ b)) (2 ^ 63) (mag-ge (a *ℤ b) (rw (abs-product a b) (none-is (natAbs a * natAbs b) e))))
+
+-- ---- the remainder, where there is a quotient
+
+divides : (a b q : ℤ) → checkedDiv a b ≡ Signed64.Value q → 0 < natAbs b
+unfolding checkedDiv
+divides a (pos zero) q e = let z : _≡_ {A = ℕ} 0 1 = cc in omega arith
+divides a (pos (suc n)) q e = omega arith
+divides a (negsuc n) q e = omega arith
+
+module _ (a b q : ℤ) (e : checkedDiv a b ≡ Signed64.Value q) where
+  pub divisor : 0 < natAbs b
+  divisor = divides a b q e
+
+  pub rem-value : SFits w64 b → fitted (pos (remainder a b)) ≡ checkedRem a b
+  unfolding checkedRem
+  rem-value f =
+      let h : remainder a b < 2 ^ 63 = omega (arith, rest-lt a (natAbs b) divisor, natAbs-le b (f .sfits)) in
+      rw (e, lt-ltb (remainder a b) (2 ^ 63) h)

@@ -1,0 +1,355 @@
+// 64-bit arithmetic: each contract is an equation with a definition of specs/ over whole numbers.
+ghost use mathlib.Core.Path.{_≡_};
+ghost use Prim.Native.Nat.{_+_, _*_, _<_, _≤_, _^_};
+ghost use mathlib.Core.List.{_++_};
+ghost use lib.ListN.{length, take, drop};
+ghost use lib.IntN.{pos, negsuc, natAbs, negℤ, _+ℤ_};
+ghost use lib.Signed.{mag, shrZ, ltZ, leZ};
+ghost use Rattle.num64.specs.Exact.{number, signOf, restOf, signedOf, bitsOf, eqZ};
+ghost use Rattle.num64.specs.Exact.{checkedAdd, checkedSub, checkedMul, checkedNeg, checkedDiv, checkedRem, fitted};
+ghost use Rattle.num64.specs.Exact.{andOf, orOf, xorOf, invertOf};
+ghost use Rattle.num64.specs.Bytes.{Read64, littleEndian};
+ghost use Rattle.num64.specs.Steps.{idxAdd, idxSub, idxMul, idxDiv, stepped};
+
+const MAX: u64 = 0xffff_ffff_ffff_ffff;
+
+// 2^63: the bits from here on are those of negative numbers.
+const HALF: u64 = 0x8000_0000_0000_0000;
+
+// A signed result, or Overflow where 64 bits hold none.
+pub enum Signed64 {
+    Value(i64),
+    Overflow,
+}
+
+// An index, or Overflow where the step leaves 0 to 2^64 - 1 or divides by 0.
+pub enum Step {
+    Value(u64),
+    Overflow,
+}
+
+// A whole number: n, or -(n + 1).
+enum Whole {
+    Pos(u64),
+    NegSuc(u64),
+}
+
+// ---- the bits of a signed number
+
+// The bits unchanged as a signed number: 2^63 and more become negative.
+pub fn signed(bits: u64) -> i64
+    ensures { λ r. ⌜ r ≡ signedOf bits ⌝ }
+{
+    if bits < HALF {
+        bits as i64
+    } else {
+        !((!bits) as i64)
+    }
+}
+
+// And back.
+pub fn bits(a: i64) -> u64
+    ensures { λ r. ⌜ r ≡ bitsOf a ⌝ }
+{
+    match split(a) {
+        Whole::Pos(n) => n,
+        Whole::NegSuc(n) => !n,
+    }
+}
+
+pub fn bitand(a: i64, b: i64) -> i64
+    ensures { λ r. ⌜ r ≡ andOf a b ⌝ }
+{
+    a & b
+}
+
+pub fn bitor(a: i64, b: i64) -> i64
+    ensures { λ r. ⌜ r ≡ orOf a b ⌝ }
+{
+    a | b
+}
+
+pub fn xor(a: i64, b: i64) -> i64
+    ensures { λ r. ⌜ r ≡ xorOf a b ⌝ }
+{
+    a ^ b
+}
+
+pub fn invert(a: i64) -> i64
+    ensures { λ r. ⌜ r ≡ invertOf a ⌝ }
+{
+    !a
+}
+
+// ---- comparisons
+
+pub fn eq(a: i64, b: i64) -> bool
+    ensures { λ r. ⌜ r ≡ eqZ a b ⌝ }
+{
+    a == b
+}
+
+pub fn lt(a: i64, b: i64) -> bool
+    ensures { λ r. ⌜ r ≡ ltZ a b ⌝ }
+{
+    a < b
+}
+
+pub fn leq(a: i64, b: i64) -> bool
+    ensures { λ r. ⌜ r ≡ leZ a b ⌝ }
+{
+    a <= b
+}
+
+pub fn gt(a: i64, b: i64) -> bool
+    ensures { λ r. ⌜ r ≡ ltZ b a ⌝ }
+{
+    a > b
+}
+
+pub fn geq(a: i64, b: i64) -> bool
+    ensures { λ r. ⌜ r ≡ leZ b a ⌝ }
+{
+    a >= b
+}
+
+// ---- between signed and whole numbers
+
+fn split(a: i64) -> Whole
+    ensures { λ r. ⌜ number r ≡ a ⌝ }
+{
+    if 0 <= a {
+        Whole::Pos(a as u64)
+    } else {
+        Whole::NegSuc((!a) as u64)
+    }
+}
+
+fn fit(z: Whole) -> Signed64
+    ensures { λ r. ⌜ r ≡ fitted (number z) ⌝ }
+{
+    match z {
+        Whole::Pos(n) => if n < HALF {
+            Signed64::Value(n as i64)
+        } else {
+            Signed64::Overflow
+        },
+        Whole::NegSuc(n) => if n < HALF {
+            Signed64::Value(!(n as i64))
+        } else {
+            Signed64::Overflow
+        },
+    }
+}
+
+fn absolute(a: i64) -> u64
+    ensures { λ r. ⌜ r ≡ natAbs a ⌝ }
+{
+    match split(a) {
+        Whole::Pos(n) => n,
+        Whole::NegSuc(n) => n + 1,
+    }
+}
+
+// ---- whole numbers
+
+fn negated(z: Whole) -> Whole
+    requires { ⌜ natAbs (number z) < 2 ^ 64 ⌝ }
+    ensures { λ r. ⌜ number r ≡ negℤ (number z) ⌝ }
+{
+    match z {
+        Whole::Pos(n) => if n == 0 {
+            Whole::Pos(0)
+        } else {
+            Whole::NegSuc(n - 1)
+        },
+        Whole::NegSuc(n) => Whole::Pos(n + 1),
+    }
+}
+
+// z, with its sign turned where b is negative
+fn signed_by(b: i64, z: Whole) -> Whole
+    requires { ⌜ natAbs (number z) < 2 ^ 64 ⌝ }
+    ensures { λ r. ⌜ number r ≡ signOf b (number z) ⌝ }
+{
+    match split(b) {
+        Whole::Pos(_) => z,
+        Whole::NegSuc(_) => negated(z),
+    }
+}
+
+// m - (n + 1)
+fn difference(m: u64, n: u64) -> Whole
+    ensures { λ r. ⌜ number r ≡ pos m +ℤ negsuc n ⌝ }
+{
+    if m <= n {
+        Whole::NegSuc(n - m)
+    } else {
+        Whole::Pos(m - n - 1)
+    }
+}
+
+fn sum(x: Whole, y: Whole) -> Whole
+    requires { ⌜ (mag (number x) < 2 ^ 63) × (natAbs (number y) ≤ 2 ^ 63) ⌝ }
+    ensures { λ r. ⌜ number r ≡ number x +ℤ number y ⌝ }
+{
+    match x {
+        Whole::Pos(m) => match y {
+            Whole::Pos(n) => Whole::Pos(m + n),
+            Whole::NegSuc(n) => difference(m, n),
+        },
+        Whole::NegSuc(m) => match y {
+            Whole::Pos(n) => difference(n, m),
+            Whole::NegSuc(n) => Whole::NegSuc(m + n + 1),
+        },
+    }
+}
+
+// z by d, rounded down
+fn floor(z: Whole, d: u64) -> Whole
+    requires { ⌜ 0 < d ⌝ }
+    ensures { λ r. ⌜ number r ≡ shrZ (number z) d ⌝ }
+{
+    match z {
+        Whole::Pos(m) => Whole::Pos(m / d),
+        Whole::NegSuc(m) => Whole::NegSuc(m / d),
+    }
+}
+
+// and what is left
+fn rest(z: Whole, d: u64) -> u64
+    requires { ⌜ 0 < d ⌝ }
+    ensures { λ r. ⌜ r ≡ restOf (number z) d ⌝ }
+{
+    match z {
+        Whole::Pos(m) => m % d,
+        Whole::NegSuc(m) => d - 1 - m % d,
+    }
+}
+
+// ---- checked arithmetic
+
+pub fn checked_neg(a: i64) -> Signed64
+    ensures { λ r. ⌜ r ≡ checkedNeg a ⌝ }
+{
+    fit(negated(split(a)))
+}
+
+pub fn checked_add(a: i64, b: i64) -> Signed64
+    ensures { λ r. ⌜ r ≡ checkedAdd a b ⌝ }
+{
+    fit(sum(split(a), split(b)))
+}
+
+pub fn checked_sub(a: i64, b: i64) -> Signed64
+    ensures { λ r. ⌜ r ≡ checkedSub a b ⌝ }
+{
+    fit(sum(split(a), negated(split(b))))
+}
+
+pub fn checked_mul(a: i64, b: i64) -> Signed64
+    ensures { λ r. ⌜ r ≡ checkedMul a b ⌝ }
+{
+    match step_mul(absolute(a), absolute(b)) {
+        Step::Value(p) => fit(signed_by(a, signed_by(b, Whole::Pos(p)))),
+        Step::Overflow => Signed64::Overflow,
+    }
+}
+
+pub fn checked_div_euclid(a: i64, b: i64) -> Signed64
+    ensures { λ r. ⌜ r ≡ checkedDiv a b ⌝ }
+{
+    let d = absolute(b);
+    if d == 0 {
+        return Signed64::Overflow;
+    }
+    fit(signed_by(b, floor(split(a), d)))
+}
+
+pub fn checked_rem_euclid(a: i64, b: i64) -> Signed64
+    ensures { λ r. ⌜ r ≡ checkedRem a b ⌝ }
+{
+    match checked_div_euclid(a, b) {
+        Signed64::Value(_) => fit(Whole::Pos(rest(split(a), absolute(b)))),
+        Signed64::Overflow => Signed64::Overflow,
+    }
+}
+
+// ---- index steps
+
+pub fn step_add(x: u64, y: u64) -> Step
+    ensures { λ r. ⌜ stepped r ≡ idxAdd (pos x) (pos y) ⌝ }
+{
+    if x <= MAX - y {
+        Step::Value(x + y)
+    } else {
+        Step::Overflow
+    }
+}
+
+pub fn step_sub(x: u64, y: u64) -> Step
+    ensures { λ r. ⌜ stepped r ≡ idxSub (pos x) (pos y) ⌝ }
+{
+    if y <= x {
+        Step::Value(x - y)
+    } else {
+        Step::Overflow
+    }
+}
+
+pub fn step_mul(x: u64, y: u64) -> Step
+    ensures { λ r. ⌜ stepped r ≡ idxMul (pos x) (pos y) ⌝ }
+{
+    if y == 0 {
+        return Step::Value(0);
+    }
+    if x <= MAX / y {
+        Step::Value(x * y)
+    } else {
+        Step::Overflow
+    }
+}
+
+pub fn step_div(x: u64, y: u64) -> Step
+    ensures { λ r. ⌜ stepped r ≡ idxDiv (pos x) (pos y) ⌝ }
+{
+    if y == 0 {
+        Step::Overflow
+    } else {
+        Step::Value(x / y)
+    }
+}
+
+// ---- eight bytes, the lowest first
+
+fn wide(x: u8) -> u64
+    ensures { λ r. ⌜ (r ≡ x) × (r < 256) ⌝ }
+{
+    x as u64
+}
+
+pub fn read_le64(s: &[u8], at: usize) -> u64
+    requires { ⌜ at + 8 ≤ length (now s) ⌝ }
+    ensures { λ r. ⌜ Read64 (now (s .entry)) at r ⌝ }
+{
+    let mut n: u64 = 0;
+    let mut k: usize = 0;
+    while k < 8 {
+        n = n * 256 + wide(s[at + (7 - k)]);
+        k += 1;
+    }
+    n
+}
+
+pub fn write_le64(s: &mut [u8], at: usize, n: u64)
+    requires { ⌜ at + 8 ≤ length (now s) ⌝ }
+    ensures { λ r. ⌜ now (s .exit) ≡ take at (now (s .entry)) ++ littleEndian 8 n ++ drop (at + 8) (now (s .entry)) ⌝ }
+{
+    let mut rest = n;
+    let mut k: usize = 0;
+    while k < 8 {
+        s[at + k] = (rest % 256) as u8;
+        rest = rest / 256;
+        k += 1;
+    }
+}

@@ -1,0 +1,20 @@
+-- Laws of the definitions in specs/, one file a subject.
+pub mod Tests
+pub mod Encodable
+pub mod Instructions
+pub mod Machine
+pub mod ParseCode
+pub mod CodeParse
+pub mod Passing
+pub mod Find
+pub mod Heads
+pub mod Canon
+pub mod FromTokens
+pub mod CodeSize
+pub mod Placing
+pub mod Forms
+pub mod Records
+pub mod Meaning
+pub mod Run
+pub mod Examples
+pub mod Readings

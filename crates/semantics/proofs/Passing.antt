@@ -1,0 +1,68 @@
+-- What the calls know of a condition that 1 to 5 let pass.
+use Prim.Native.Nat.{ℕ, _≤_}
+use mathlib.Core.Bool.{Bool, true, false, cond}
+use mathlib.Core.Option.{Option, none, some}
+use mathlib.Core.Path.{_≡_, refl}
+use mathlib.Core.List.{List, [], _∷_}
+use native.Mathlib.Omega.{arith}
+use borrow.Author.Tests.{leb-true}
+use lib.ListN.{length}
+use lib.Dec.{leb}
+use Rattle.num64.specs.Bytes.{Bytes}
+use Rattle.semantics.specs.Check.{Checked, Condition, answered, condition, firstOf, judged, judgedParsed, passedUnless, unless}
+use Rattle.semantics.specs.Code.{code, maxCode, maxTokens}
+use Rattle.semantics.specs.Oracle.{oracleRule, oracles}
+use Rattle.semantics.specs.Parse.{Parsed, parse}
+use Rattle.semantics.specs.Refusals.{Refusal}
+use Rattle.semantics.specs.Token.{form}
+use Rattle.semantics.specs.Trees.{Arith}
+use Rattle.semantics.proofs.Encodable.{Encodable}
+use Rattle.semantics.proofs.CodeParse.{code-parse, parse-encodable}
+
+pub record Passing (b : List ℕ) (a : Arith) : Type 0 where
+  pub parses : parse b ≡ Parsed.tree a
+  pub encodable : Encodable a
+  pub coded : code a ≡ b
+  pub short : length b ≤ maxCode
+  pub few : length (form a) ≤ maxTokens
+  pub rule : oracleRule a ≡ none
+
+-- Check's answer tells whether the condition passes
+pub answered-refused : (k : Condition) (r : Refusal) → answered k ≡ Checked.Refused r → k ≡ Condition.refused r
+answered-refused (Condition.refused s) r e = cc
+answered-refused (Condition.passed a) r e = cc
+
+pub answered-passed : (k : Condition) (n m : ℕ) → answered k ≡ Checked.Passed n m
+    → (a : Arith) × (k ≡ Condition.passed a) × (length (form a) ≡ n) × (oracles a ≡ m)
+answered-passed (Condition.refused s) n m e = absurd (let z : _≡_ {A = ℕ} 0 1 = cc in omega arith)
+answered-passed (Condition.passed a) n m e = (a, refl, cc, cc)
+
+not-long : (t : Bool) (k : Condition) (a : Arith) → cond t k (Condition.refused Refusal.CodeTooLong) ≡ Condition.passed a
+    → (t ≡ true) × (k ≡ Condition.passed a)
+not-long true k a e = (refl, e)
+not-long false k a e = (cc, cc)
+
+parsed : (p : Parsed) (a : Arith) → judgedParsed p ≡ Condition.passed a → (c : Arith) × (p ≡ Parsed.tree c) × (judged c ≡ Condition.passed a)
+parsed (Parsed.malformed at) a e = absurd (let z : _≡_ {A = ℕ} 0 1 = cc in omega arith)
+parsed (Parsed.tree c) a e = (c, refl, e)
+
+judged-passed : (c a : Arith) (t : Bool) (r : Option Refusal)
+    → passedUnless (firstOf (unless t Refusal.TooManyTokens ∷ r ∷ [])) c ≡ Condition.passed a → (c ≡ a) × (t ≡ true) × (r ≡ none)
+judged-passed c a true none e = (cc, refl, refl)
+judged-passed c a true (some r) e = (cc, refl, cc)
+judged-passed c a false r e = (cc, cc, cc)
+
+pub passing : (b : List ℕ) → Bytes b → (a : Arith) → condition b ≡ Condition.passed a → Passing b a
+unfolding condition judged
+passing b h a e =
+    let p = not-long (leb (length b) maxCode) (judgedParsed (parse b)) a e in
+    let q = parsed (parse b) a (p .1) in
+    let j = judged-passed (q .0) a (leb (length (form (q .0))) maxTokens) (oracleRule (q .0)) (q .2) in
+    rw (← j .0) (record {
+      parses = q .1;
+      encodable = parse-encodable b (q .0) h (q .1);
+      coded = code-parse b (q .0) h (q .1);
+      short = leb-true (length b) maxCode (p .0);
+      few = leb-true (length (form (q .0))) maxTokens (j .1);
+      rule = j .2;
+    })

@@ -1,0 +1,124 @@
+-- "Evaluation" of a tree: the left operand first; the first refusal ends it.
+use Prim.Native.Nat.{ℕ, _+_, _^_}
+use mathlib.Core.Bool.{Bool, cond}
+use mathlib.Core.List.{List, [], _∷_, _++_}
+use mathlib.Core.Option.{Option, none, some}
+use lib.ListN.{length, getD}
+use lib.Dec.{eqb, ltb}
+use lib.IntN.{ℤ, pos, negsuc}
+use Rattle.num64.specs.Exact.{signedOf}
+use Rattle.num64.specs.Steps.{inRange}
+use Rattle.num64.specs.Bytes.{littleEndian, bytesValue}
+use Rattle.semantics.specs.Operations.{Value, idxRow, listRow, binRow, unRow, cmpRow}
+use Rattle.semantics.specs.Refusals.{Refusal}
+use Rattle.semantics.specs.Trees.{AmountList, BinOp, UnOp, IdxExpr, Expr, Arith}
+
+abbrev pub optionThen : Option ℤ → (ℤ → Option ℤ) → Option ℤ
+optionThen none f = none
+optionThen (some z) f = f z
+
+-- `IdxExpr::eval`: "Index steps are exact on whole numbers, division rounds down, and only 41 limits them"
+unfoldable pub index : ℕ → IdxExpr → Option ℤ
+index current (IdxExpr.Const n) = inRange (pos n)
+index current IdxExpr.CurrIdx = inRange (pos current)
+index current (IdxExpr.Op o x y) = optionThen (index current x) λ m. optionThen (index current y) λ n. idxRow o .result m n
+
+-- "Amounts are four pairs of lists ..; each has an unsigned 64-bit number and a mark per slot (1 explicit)"
+pub record Amounts : Type 0 where
+  pub numbers : List ℕ
+  pub marks : List ℕ
+
+-- "The current index is an unsigned 64-bit number"
+pub record Env : Type 0 where
+  pub spent : Amounts
+  pub outputs : Amounts
+  pub issued : Amounts
+  pub reissued : Amounts
+  pub current : ℕ
+
+abbrev pub amounts : Env → AmountList → Amounts
+amounts env AmountList.Input = env .spent
+amounts env AmountList.Output = env .outputs
+amounts env AmountList.InputIssue = env .issued
+amounts env AmountList.InputReIssue = env .reissued
+
+-- "An explicit 64-bit amount is taken with its bits unchanged as a signed number"; no index is below 0
+unfoldable pub amount : Amounts → AmountList → ℤ → Value
+amount a l (pos i) =
+    cond (ltb i (length (a .numbers)))
+    (cond (eqb (getD (a .marks) i 0) 1) (Value.Number (signedOf (getD (a .numbers) i 0))) (Value.Refused (listRow l .hidden i)))
+    (Value.Refused (listRow l .outside i (length (a .numbers))))
+amount a l (negsuc i) = Value.Refused Refusal.IndexStep
+
+-- 41: "an index step leaves 0 to 2^64 − 1, or divides by 0"
+abbrev pub lookedUp : Env → AmountList → Option ℤ → Value
+lookedUp env l none = Value.Refused Refusal.IndexStep
+lookedUp env l (some i) = amount (amounts env l) l i
+
+-- the number and the bytes of the checks so far, and the witness elements left, the top first
+pub record State : Type 0 where
+  pub checks : ℕ
+  pub written : List ℕ
+  pub left : List (List ℕ)
+
+pub data Outcome (A : Type 0) : Type 0 where
+  ok : A → State → Outcome A
+  err : Refusal → State → Outcome A
+
+abbrev pub onward : {A B : Type 0} → Outcome A → (A → State → Outcome B) → Outcome B
+onward (ok a st) f = f a st
+onward (err r st) f = err r st
+
+abbrev pub outcome : Value → State → Outcome ℤ
+outcome (Value.Number z) st = ok z st
+outcome (Value.Refused r) st = err r st
+
+-- "a missing element comes before a wrong width"; "a popped element stays popped"
+abbrev pub popFrom : ℕ → Refusal → Refusal → State → List (List ℕ) → Outcome (List ℕ)
+popFrom width absent wrong st [] = err absent st
+popFrom width absent wrong st (e ∷ es) =
+    let popped : State = record { checks = st .checks; written = st .written; left = es } in
+    cond (eqb (length e) width) (ok e popped) (err wrong popped)
+
+abbrev pub pop : ℕ → Refusal → Refusal → State → Outcome (List ℕ)
+pop width absent wrong st = popFrom width absent wrong st (st .left)
+
+-- 39: "If the terminal's time is below the witness time, unsigned"
+abbrev pub inFuture : ℕ → ℕ → Bool
+inFuture time witnessTime = ltb time witnessTime
+
+-- "a check of 112 bytes ..: key, the terminal's time, price, signature"
+abbrev pub checkBytes : List ℕ → ℕ → List ℕ → List ℕ → List ℕ → List ℕ
+checkBytes key time witnessTime price signature = key ++ littleEndian 8 time ++ price ++ signature
+
+-- "pops price, then time (8 bytes each), then signature (64 bytes)"; "A price of 2^63 or more: 40"
+unfoldable pub oracle : List ℕ → ℕ → State → Outcome ℤ
+oracle key time st =
+    onward (pop 8 Refusal.MissingPrice Refusal.Price8BytePush st) λ price st₁.
+    onward (pop 8 Refusal.MissingTimestamp Refusal.Timstamp8BytePush st₁) λ witnessTime st₂.
+    onward (pop 64 Refusal.MissingOracleSignature Refusal.MalformedSig st₂) λ signature st₃.
+    let check = checkBytes key time witnessTime price signature in
+    let st₄ : State = record { checks = st₃ .checks + 1; written = st₃ .written ++ check; left = st₃ .left } in
+    cond (inFuture time (bytesValue witnessTime)) (err Refusal.TimestampInFuture st₃)
+    (cond (ltb (bytesValue price) (2 ^ 63)) (ok (pos (bytesValue price)) st₄) (err Refusal.PriceOverflow st₄))
+
+-- "the left operand first"
+abbrev pub binaryStep : BinOp → (State → Outcome ℤ) → (State → Outcome ℤ) → State → Outcome ℤ
+binaryStep o left right st = onward (left st) λ x st₁. onward (right st₁) λ y st₂. outcome (binRow o .result x y) st₂
+
+abbrev pub unaryStep : UnOp → (State → Outcome ℤ) → State → Outcome ℤ
+unaryStep o operand st = onward (operand st) λ x st₁. outcome (unRow o .result x) st₁
+
+-- `Expr::eval`
+unfoldable pub eval : Env → Expr → State → Outcome ℤ
+eval env (Expr.Const bits) st = ok (signedOf bits) st
+eval env Expr.CurrInputIdx st = outcome (lookedUp env AmountList.Input (index (env .current) IdxExpr.CurrIdx)) st
+eval env (Expr.Lookup l i) st = outcome (lookedUp env l (index (env .current) i)) st
+eval env (Expr.Binary o x y) st = binaryStep o (eval env x) (eval env y) st
+eval env (Expr.Unary o x) st = unaryStep o (eval env x) st
+eval env (Expr.PriceOracle1 key time) st = oracle key time st
+eval env (Expr.PriceOracle1W key time) st = oracle key time st
+
+-- `Arith::eval`
+unfoldable pub evalArith : Env → Arith → State → Outcome Bool
+evalArith env (Arith.Compare o x y) st = onward (eval env x st) λ a st₁. onward (eval env y st₁) λ b st₂. ok (cmpRow o .result a b) st₂

@@ -1,0 +1,16 @@
+-- The definitions, in reading order.
+pub mod Trees
+pub mod Refusals
+pub mod Operations
+pub mod Code
+pub mod Parse
+pub mod Token
+pub mod Oracle
+pub mod FromTokens
+pub mod Evaluation
+pub mod Check
+pub mod Evaluate
+pub mod Records
+pub mod Write
+pub mod Decode
+pub mod Meaning

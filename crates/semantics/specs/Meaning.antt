@@ -1,0 +1,60 @@
+-- DEMAND 3: no token sequence carries two meanings. One statement about a whole token list, `Unambiguous`; that it holds of every list of up to
+-- 1,024 sound tokens, and of the call on records, is proved in proofs/Meaning.antt (`unambiguous`, `call-unambiguous`).
+use Prim.Native.Nat.{ℕ, _<_, _≤_}
+use mathlib.Core.Bool.{true}
+use mathlib.Core.Option.{none}
+use mathlib.Core.Path.{_≡_}
+use mathlib.Core.Logic.{_↔_}
+use mathlib.Core.List.{List}
+use lib.ListN.{length, take, drop}
+use Rattle.num64.specs.Bytes.{Bytes}
+use Rattle.semantics.specs.Trees.{Arith}
+use Rattle.semantics.specs.Code.{maxCode, maxTokens}
+use Rattle.semantics.specs.Parse.{Parsed, parse}
+use Rattle.semantics.specs.Token.{Token, form, narrow}
+use Rattle.semantics.specs.Oracle.{oracleRule}
+use Rattle.semantics.specs.Evaluate.{Lent, evaluated}
+use Rattle.semantics.specs.Records.{Records, tokens, unsound}
+use Rattle.semantics.specs.Decode.{Reading, Decoded, decode}
+
+-- "a condition is any well-formed code"; "a condition that 6 turns down has none": ts is the token form of the condition b
+pub record HasForm (b : List ℕ) (ts : List Token) : Type 0 where
+  pub tree : Arith
+  pub bytes : Bytes b
+  pub wellFormed : parse b ≡ Parsed.tree tree
+  pub small : narrow (form tree) ≡ true
+  pub is : form tree ≡ ts
+
+-- "a tail runs from some record to the last one": the tail from n on is the form of the condition b
+pub record FormAt (ts : List Token) (n : ℕ) (b : List ℕ) : Type 0 where
+  pub tail : n < length ts
+  pub form : HasForm b (drop n ts)
+
+-- "it passes the oracle rules if neither 4 nor 5 falls on it"
+pub record PassingAt (ts : List Token) (n : ℕ) (b : List ℕ) : Type 0 where
+  pub at : FormAt ts n b
+  pub passes : oracleRule (at .form .tree) ≡ none
+
+-- of a decoder of ts: `Accepts b n` says that it accepts, with the code b and the tail's start n
+pub record Unambiguous (ts : List Token) (Accepts : List ℕ → ℕ → Type 0) : Type 0 where
+  -- it accepts exactly when a tail is the form of a condition that passes the oracle rules
+  pub accepts : ((b : List ℕ) × (n : ℕ) × Accepts b n) ↔ ((b : List ℕ) × (n : ℕ) × PassingAt ts n b)
+  -- at most one tail is the form of a condition, whether it passes or not
+  pub one : (m n : ℕ) (a b : List ℕ) → FormAt ts m a → FormAt ts n b → m ≡ n
+  -- what is returned is the start of that tail, and a condition that passes the rules and has that form
+  pub returned : (b : List ℕ) (n : ℕ) → Accepts b n → PassingAt ts n b
+  -- and whatever Evaluate is lent, it answers all conditions that have one tail for their form alike
+  pub alike : (n : ℕ) (a b : List ℕ) → HasForm a (drop n ts) → HasForm b (drop n ts) → (l : Lent) → evaluated a l ≡ evaluated b l
+
+-- the decoder of token lists
+abbrev pub DecodeAccepts : List Token → List ℕ → ℕ → Type 0
+DecodeAccepts ts b n = decode ts ≡ Reading.accepted b n
+
+-- and a call on records: its answer and what its code buffer holds then
+abbrev pub CallAccepts : Decoded → List ℕ → List ℕ → ℕ → Type 0
+CallAccepts answer buffer b n = (answer ≡ Decoded.Code (length b) n) × (take (length b) buffer ≡ b)
+
+-- "a buffer is full-sized if Decode's 7 lets it pass": what a call on up to 1,024 sound records, with such a buffer, owes of its own answer
+abbrev pub CallUnambiguous : Records → List ℕ → Decoded → List ℕ → Type 0
+CallUnambiguous r old answer new =
+    length (r .kinds) ≤ maxTokens → unsound r ≡ none → maxCode ≤ length old → Unambiguous (tokens r) (CallAccepts answer new)
