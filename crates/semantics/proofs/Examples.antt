@@ -116,5 +116,5 @@ examples =
     ∷ (lessOne 0, pos 41 ∷ pos 0 ∷ pos 0 ∷ []) ∷ (lessOne 1, pos 0 ∷ []) ∷ []
 
 pub examples-right : map (λ (e : List ℤ × List ℤ). e .0) examples ≡ map (λ (e : List ℤ × List ℤ). e .1) examples
-unfolding examples numbered checkedAdd checkedNeg checkedDiv checkedRem idxSub littleEndian bytesValue idxForm exprForm form idxCode exprCode code commandOf instructions parse idxHeadForm idxHead idxWithin idxFromTokens headForm head exprWithin exprFromTokens comparison fromTokens terminals oracleRule oracles index amount oracle eval evalArith decode initial judged condition checked evaluatedTree evaluated
+unfolding examples checkedAdd checkedNeg checkedDiv checkedRem idxSub littleEndian bytesValue idxForm exprForm form idxCode exprCode code commandOf instructions parse idxHeadForm idxHead idxWithin idxFromTokens headForm head exprWithin exprFromTokens comparison fromTokens terminals oracleRule oracles index amount oracle eval evalArith decode initial judged condition checked evaluatedTree evaluated
 examples-right = refl

@@ -1,9 +1,10 @@
 -- The instructions of code, and the bytes of instructions.
 use Prim.Native.Nat.{ℕ, zero, suc}
-use mathlib.Core.Path.{_≡_, refl, sym}
+use mathlib.Core.Path.{_≡_, refl, sym, subst}
 use mathlib.Core.Bool.{Bool, true, false, cond}
-use mathlib.Core.List.{List, [], _∷_, _++_}
-use borrow.Author.Tests.{eqb-true}
+use mathlib.Core.List.{List, [], _∷_, _++_, map, reverse, reverse-append}
+use borrow.Author.Tests.{eqb-true, ne-eqb}
+use types.Run.{OneOf}
 use lib.Dec.{eqb}
 use lib.ListN.{length, take, drop, take-append-drop}
 use lib.Seq.{take-at, drop-at, drop-nil}
@@ -103,3 +104,27 @@ byte-in (c ∷ cs) b e = go (eqb (commandRow c .byte) b) refl (byte-in cs b) e
 pub command-byte : (b : ℕ) → known (commandOf b) ≡ true → commandRow (commandOf b) .byte ≡ b
 unfolding commandOf
 command-byte b e = byte-in commands b e
+
+-- a byte that is no command's, as a `match` over the bytes tells it: the last arm first
+abbrev pub Elsewhere : List ℕ → ℕ → Type 0
+Elsewhere [] b = Unit {0}
+Elsewhere (k ∷ ks) b = Elsewhere ks b × (OneOf (k ∷ []) b → ⊥)
+
+elsewhere-first : (ks : List ℕ) (k b : ℕ) → Elsewhere (ks ++ k ∷ []) b → Elsewhere ks b × (b ≡ k → ⊥)
+elsewhere-first [] k b h = (tt, h .1)
+elsewhere-first (j ∷ ks) k b h = let r = elsewhere-first ks k b (h .0) in ((r .0, h .1), r .1)
+
+bytesFrom : List Command → List ℕ
+bytesFrom cs = reverse (map (λ c. commandRow c .byte) cs)
+
+unknown-in : (cs : List Command) (b : ℕ) → Elsewhere (bytesFrom cs) b → Command.Unknown ≡ commandIn cs b
+unfolding bytesFrom
+unknown-in [] b h = refl
+unknown-in (c ∷ cs) b h =
+    let e = reverse-append (commandRow c .byte ∷ []) (map (λ d. commandRow d .byte) cs) in
+    let r = elsewhere-first (bytesFrom cs) (commandRow c .byte) b (subst (λ (ks : List ℕ). Elsewhere ks b) e h) in
+    rw (ne-eqb (commandRow c .byte) b (λ q. r .1 (sym q))) (unknown-in cs b (r .0))
+
+pub unknown-byte : (b : ℕ) → Elsewhere (reverse (map (λ c. commandRow c .byte) commands)) b → Command.Unknown ≡ commandOf b
+unfolding commandOf bytesFrom
+unknown-byte b h = unknown-in commands b h

@@ -2,7 +2,7 @@
 use Prim.Native.Nat.{ℕ, _≤_, _<_, _^_}
 use mathlib.Core.Option.{Option, none, some}
 use mathlib.Core.Path.{_≡_, refl, sym, ap, _∙_, subst}
-use mathlib.Core.List.{List, [], _∷_, _++_, reverse, reverse-append, reverse-reverse}
+use mathlib.Core.List.{List, [], _++_, reverse, reverse-append, reverse-reverse}
 use native.Mathlib.Omega.{arith}
 use borrow.Author.Tests.{le-leb}
 use lib.ListN.{length, take, drop, length-append, length-reverse, length-drop, take-append-drop}
@@ -11,7 +11,7 @@ use Rattle.num64.specs.Bytes.{All, Bytes}
 use Rattle.num64.proofs.Bytes.{all-append}
 use Rattle.semantics.specs.Check.{condition}
 use Rattle.semantics.specs.Code.{code, maxCode, maxTokens}
-use Rattle.semantics.specs.Decode.{Decoded, Reading, decode, decoded, decodedAs, reading, unlessRuled}
+use Rattle.semantics.specs.Decode.{Reading, decode, decoded, decodedAs, reading, unlessRuled}
 use Rattle.semantics.specs.Evaluate.{Lent, evaluated}
 use Rattle.semantics.specs.FromTokens.{Found, found, fromTokens, nothing}
 use Rattle.semantics.specs.Meaning.{CallAccepts, CallUnambiguous, DecodeAccepts, FormAt, HasForm, PassingAt, Unambiguous}

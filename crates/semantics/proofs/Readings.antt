@@ -175,5 +175,5 @@ readings =
     ∷ (decodedAnswer (records (2 ∷ 2 ∷ 14 ∷ [])), bare 7) ∷ []
 
 pub readings-right : map (λ (e : List ℕ × List ℕ). e .0) readings ≡ map (λ (e : List ℕ × List ℕ). e .1) readings
-unfolding readings numbered checkedAdd checkedSub checkedMul idxAdd idxSub idxMul idxDiv littleEndian bytesValue idxForm exprForm form idxCode exprCode code commandOf instructions parse idxHeadForm idxHead idxWithin idxFromTokens headForm head exprWithin exprFromTokens comparison fromTokens terminals oracleRule oracles index amount oracle eval evalArith decode initial judged condition checked evaluatedTree evaluated writing tokensFrom unsoundFrom decoded
+unfolding readings checkedAdd checkedSub checkedMul idxAdd idxSub idxMul idxDiv littleEndian bytesValue idxForm exprForm form idxCode exprCode code commandOf instructions parse idxHeadForm idxHead idxWithin idxFromTokens headForm head exprWithin exprFromTokens comparison fromTokens terminals oracleRule oracles index amount oracle eval evalArith decode initial judged condition checked evaluatedTree evaluated writing tokensFrom unsoundFrom decoded
 readings-right = refl

@@ -58,28 +58,18 @@ pub record ListRow : Type 0 where
   pub outside : ℕ → ℕ → Refusal
   pub hidden : ℕ → Refusal
 
+abbrev pub row : ℕ → List Token → (ℕ → ℕ → Refusal) → (ℕ → Refusal) → ListRow
+row c f o h = record { command = c; form = f; outside = o; hidden = h }
+
 abbrev pub listRow : AmountList → ListRow
 -- INSPECTINPUTVALUE or INSPECTOUTPUTVALUE <1> EQUALVERIFY
-listRow AmountList.Input =
-    record { command = 18; form = op 22 ∷ verified; outside = Refusal.UtxoIndexOutOfBounds; hidden = Refusal.NonExplicitInput }
-listRow AmountList.Output =
-    record { command = 19; form = op 23 ∷ verified; outside = Refusal.OutputIndexOutOfBounds; hidden = Refusal.NonExplicitOutput }
--- INSPECTINPUTISSUANCE DROP DROP <1> EQUALVERIFY NIP NIP
+listRow AmountList.Input = row 18 (op 22 ∷ verified) Refusal.UtxoIndexOutOfBounds Refusal.NonExplicitInput
+listRow AmountList.Output = row 19 (op 23 ∷ verified) Refusal.OutputIndexOutOfBounds Refusal.NonExplicitOutput
+-- INSPECTINPUTISSUANCE DROP DROP <1> EQUALVERIFY NIP NIP; INSPECTINPUTISSUANCE DROP DROP DROP DROP <1> EQUALVERIFY
 listRow AmountList.InputIssue =
-    record {
-      command = 20;
-      form = op 24 ∷ op 17 ∷ op 17 ∷ verified ++ op 16 ∷ op 16 ∷ [];
-      outside = Refusal.InputIndexOutOfBounds;
-      hidden = Refusal.NonExplicitInputIssuance;
-    }
--- INSPECTINPUTISSUANCE DROP DROP DROP DROP <1> EQUALVERIFY
+    row 20 (op 24 ∷ op 17 ∷ op 17 ∷ verified ++ op 16 ∷ op 16 ∷ []) Refusal.InputIndexOutOfBounds Refusal.NonExplicitInputIssuance
 listRow AmountList.InputReIssue =
-    record {
-      command = 21;
-      form = op 24 ∷ op 17 ∷ op 17 ∷ op 17 ∷ op 17 ∷ verified;
-      outside = Refusal.InputIndexOutOfBounds;
-      hidden = Refusal.NonExplicitInputReIssuance;
-    }
+    row 21 (op 24 ∷ op 17 ∷ op 17 ∷ op 17 ∷ op 17 ∷ verified) Refusal.InputIndexOutOfBounds Refusal.NonExplicitInputReIssuance
 
 -- a 64-bit result, or the refusal where 64 bits hold none
 abbrev pub orRefused : Signed64 → Refusal → Value

@@ -3,16 +3,12 @@
 use Prim.Native.Nat.{ℕ}
 use Rattle.num64.specs.Exact.{bitsOf}
 pub use Rattle.semantics.specs.declared.Refusal.{Refusal}
-
-pub record Numbered : Type 0 where
-  pub number : ℕ
-  pub first : ℕ
-  pub second : ℕ
+pub use Rattle.semantics.specs.declared.Numbered.{Numbered}
 
 abbrev pub refusal : ℕ → ℕ → ℕ → Numbered
 refusal number first second = record { number = number; first = first; second = second }
 
-unfoldable pub numbered : Refusal → Numbered
+abbrev pub numbered : Refusal → Numbered
 numbered Refusal.CodeTooLong = refusal 1 0 0
 numbered (Refusal.NotWellFormed offset) = refusal 2 offset 0
 numbered Refusal.TooManyTokens = refusal 3 0 0

@@ -1,0 +1,119 @@
+-- What Check answers, by the walk: `checked-walk`.
+use Prim.Native.Nat.{ℕ, suc, _+_}
+use mathlib.Core.Path.{_≡_, refl, ap, _∙_}
+use mathlib.Core.Bool.{Bool, true, false, cond}
+use mathlib.Core.Option.{Option, none, some}
+use mathlib.Core.List.{List, [], _∷_, _++_}
+use native.Mathlib.Nat.{zero-add}
+use native.Mathlib.Omega.{arith}
+use borrow.Author.Tests.{le-ltb, leb-false, leb-true, lt-ltb, ne-eqb}
+use lib.Dec.{leb, ltb}
+use lib.ListN.{length}
+use Rattle.semantics.specs.declared.Checked.{Checked}
+use Rattle.semantics.specs.declared.Refusal.{Refusal}
+use Rattle.semantics.specs.declared.Terminal.{Terminal}
+use Rattle.semantics.specs.Check.{answered, checked, condition, firstOf, judged, judgedParsed, passedUnless, unless}
+use Rattle.semantics.specs.Code.{maxCode, maxTokens}
+use Rattle.semantics.specs.Oracle.{missing, oracleRule, oracles, oraclesIn, rule, terminals}
+use Rattle.semantics.specs.Parse.{Waiting, Walk, finished, fold, instructions, nothing, parse, treeStep}
+use Rattle.semantics.specs.Token.{form}
+use Rattle.semantics.specs.Trees.{Arith, Expr, IdxExpr}
+use Rattle.condition.specs.declared.Rule.{Rule}
+use Rattle.condition.specs.declared.Summary.{Summary}
+use Rattle.condition.specs.Walk.{counted, ended, judgedRule, judgedSummary, judgedWalk, over, ruled, walked}
+use Rattle.condition.proofs.Trees.{summarised, summary, summary-oracles, summary-rule, summary-tokens, walked-summary}
+
+-- the refusal that the rule comes to
+refusalOf : Rule → Option Refusal
+refusalOf Rule.Unseen = none
+refusalOf Rule.Kept = none
+refusalOf Rule.WFirst = some Refusal.PriceOracle1WFirst
+refusalOf Rule.Missing = some Refusal.PriceOracle1Missing
+
+over-counted : (n : ℕ) (ts : List Terminal) → over counted n ts ≡ n + oraclesIn ts
+over-counted n [] = omega arith
+over-counted n (Terminal.Other ∷ ts) = over-counted n ts
+over-counted n (Terminal.PriceOracle1 ∷ ts) = omega (arith, over-counted (n + 1) ts)
+over-counted n (Terminal.PriceOracle1W ∷ ts) = omega (arith, over-counted (n + 1) ts)
+
+stays : (r : Rule) → ((t : Terminal) → ruled r t ≡ r) → (ts : List Terminal) → over ruled r ts ≡ r
+stays r h [] = refl
+stays r h (t ∷ ts) = ap (λ q. over ruled q ts) (h t) ∙ stays r h ts
+
+kept : (ts : List Terminal) → refusalOf (over ruled Rule.Kept ts) ≡ missing ts
+unfolding refusalOf
+kept [] = refl
+kept (Terminal.Other ∷ ts) = kept ts
+kept (Terminal.PriceOracle1 ∷ ts) = rw (stays Rule.Missing (λ t. refl) ts)
+kept (Terminal.PriceOracle1W ∷ ts) = kept ts
+
+-- an expression has a terminal
+ruled-rule : (xs ys : List Terminal) → (xs ≡ [] → ⊥) → refusalOf (over ruled Rule.Unseen (xs ++ ys)) ≡ rule xs ys
+unfolding refusalOf
+ruled-rule [] ys h = absurd (h refl)
+ruled-rule (Terminal.Other ∷ xs) ys h = kept (xs ++ ys)
+ruled-rule (Terminal.PriceOracle1 ∷ xs) ys h = kept (xs ++ ys)
+ruled-rule (Terminal.PriceOracle1W ∷ xs) ys h = rw (stays Rule.WFirst (λ t. refl) (xs ++ ys))
+
+some-terminal : (x : Expr) → terminals x ≡ [] → ⊥
+unfolding terminals
+some-terminal (Expr.Const bits) e = let z : _≡_ {A = ℕ} 0 1 = cc in omega arith
+some-terminal Expr.CurrInputIdx e = let z : _≡_ {A = ℕ} 0 1 = cc in omega arith
+some-terminal (Expr.Lookup l i) e = let z : _≡_ {A = ℕ} 0 1 = cc in omega arith
+some-terminal (Expr.Binary o x y) e = some-terminal x (first (terminals x) (terminals y) e)
+  where
+    first : (xs ys : List Terminal) → xs ++ ys ≡ [] → xs ≡ []
+    first [] ys e = refl
+    first (t ∷ xs) ys e = cc
+some-terminal (Expr.Unary o x) e = some-terminal x e
+some-terminal (Expr.PriceOracle1 key time) e = let z : _≡_ {A = ℕ} 0 1 = cc in omega arith
+some-terminal (Expr.PriceOracle1W key time) e = let z : _≡_ {A = ℕ} 0 1 = cc in omega arith
+
+-- of a condition: 3, then 4 and 5, or what is passed on
+judged-as : (a : Arith) (s : Summary) → s .tokens ≡ length (form a) → s .oracles ≡ oracles a → refusalOf (s .rule) ≡ oracleRule a
+    → answered (judged a) ≡ judgedSummary s
+unfolding judged refusalOf
+judged-as a s t n r = rw (← r) (go (leb (length (form a)) maxTokens) refl)
+  where
+    passed : (q : Rule) → answered (passedUnless (firstOf (refusalOf q ∷ [])) a) ≡ judgedRule q s
+    passed Rule.Unseen = rw (t, n)
+    passed Rule.Kept = rw (t, n)
+    passed Rule.WFirst = refl
+    passed Rule.Missing = refl
+
+    go : (b : Bool) → leb (length (form a)) maxTokens ≡ b
+        → answered (passedUnless (firstOf (unless b Refusal.TooManyTokens ∷ refusalOf (s .rule) ∷ [])) a)
+        ≡ cond (ltb maxTokens (s .tokens)) (Checked.Refused Refusal.TooManyTokens) (judgedRule (s .rule) s)
+    go true q = rw (le-ltb maxTokens (s .tokens) (omega (arith, t, leb-true (length (form a)) maxTokens q))) (passed (s .rule))
+    go false q = rw (lt-ltb maxTokens (s .tokens) (omega (arith, t, leb-false (length (form a)) maxTokens q)))
+
+judged-summary : (a : Arith) (ds : List Arith) (vs : List Expr) (is : List IdxExpr)
+    → answered (judged a) ≡ judgedSummary (summary (record { values = vs; indexes = is; conditions = a ∷ ds }))
+unfolding oracles oracleRule
+judged-summary (Arith.Compare o x y) ds vs is =
+    judged-as (Arith.Compare o x y) (summary (record { values = vs; indexes = is; conditions = Arith.Compare o x y ∷ ds }))
+    (summary-tokens (Arith.Compare o x y) ds vs is)
+    (summary-oracles o x y ds vs is ∙ over-counted 0 (terminals x ++ terminals y) ∙ zero-add (oraclesIn (terminals x ++ terminals y)))
+    (ap refusalOf (summary-rule o x y ds vs is) ∙ ruled-rule (terminals x) (terminals y) (some-terminal x))
+
+-- of a walk that has ended
+going-judged : (at : ℕ) (ds : List Arith) (vs : List Expr) (is : List IdxExpr)
+    → let g : Walk Waiting = Walk.going at (record { values = vs; indexes = is; conditions = ds }) in
+    answered (judgedParsed (finished g)) ≡ judgedWalk (ended (summarised g))
+unfolding summary
+going-judged at [] vs is = refl
+going-judged at (a ∷ ds) vs is = rw (ne-eqb (suc (length ds)) 0 (λ e. omega arith)) (judged-summary a ds vs is)
+
+ended-judged : (g : Walk Waiting) → answered (judgedParsed (finished g)) ≡ judgedWalk (ended (summarised g))
+ended-judged (Walk.going at w) = going-judged at (w .conditions) (w .values) (w .indexes)
+ended-judged (Walk.refused at) = refl
+
+pub checked-walk : (c : List ℕ) → checked c ≡ cond (ltb maxCode (length c)) (Checked.Refused Refusal.CodeTooLong) (judgedWalk (walked c))
+unfolding checked condition parse
+checked-walk c = go (leb (length c) maxCode) refl
+  where
+    go : (b : Bool) → leb (length c) maxCode ≡ b → checked c ≡ cond (ltb maxCode (length c)) (Checked.Refused Refusal.CodeTooLong) (judgedWalk (walked c))
+    go true q =
+        rw (q, le-ltb maxCode (length c) (leb-true (length c) maxCode q), walked-summary c)
+        (ended-judged (fold treeStep (Walk.going 0 nothing) (instructions c)))
+    go false q = rw (q, lt-ltb maxCode (length c) (leb-false (length c) maxCode q))

@@ -1,0 +1,4 @@
+-- Laws of the walk in specs/Walk.antt, one file a subject.
+pub mod Steps
+pub mod Trees
+pub mod Checks
