@@ -20,7 +20,7 @@ use Rattle.semantics.specs.Token.{form}
 use Rattle.semantics.specs.Trees.{Arith, Expr, IdxExpr}
 use Rattle.condition.specs.declared.Rule.{Rule}
 use Rattle.condition.specs.declared.Summary.{Summary}
-use Rattle.condition.specs.Walk.{counted, ended, judgedRule, judgedSummary, judgedWalk, over, ruled, walked}
+use Rattle.condition.specs.Walk.{counted, ended, judgedRule, judgedSummary, judgedWalk, foldTerminals, ruled, walked}
 use Rattle.condition.proofs.Trees.{summarised, summary, summary-oracles, summary-rule, summary-tokens, walked-summary}
 
 -- the refusal that the rule comes to
@@ -30,17 +30,17 @@ refusalOf Rule.Kept = none
 refusalOf Rule.WFirst = some Refusal.PriceOracle1WFirst
 refusalOf Rule.Missing = some Refusal.PriceOracle1Missing
 
-over-counted : (n : ℕ) (ts : List Terminal) → over counted n ts ≡ n + oraclesIn ts
-over-counted n [] = omega arith
-over-counted n (Terminal.Other ∷ ts) = over-counted n ts
-over-counted n (Terminal.PriceOracle1 ∷ ts) = omega (arith, over-counted (n + 1) ts)
-over-counted n (Terminal.PriceOracle1W ∷ ts) = omega (arith, over-counted (n + 1) ts)
+foldTerminals-counted : (n : ℕ) (ts : List Terminal) → foldTerminals counted n ts ≡ n + oraclesIn ts
+foldTerminals-counted n [] = omega arith
+foldTerminals-counted n (Terminal.Other ∷ ts) = foldTerminals-counted n ts
+foldTerminals-counted n (Terminal.PriceOracle1 ∷ ts) = omega (arith, foldTerminals-counted (n + 1) ts)
+foldTerminals-counted n (Terminal.PriceOracle1W ∷ ts) = omega (arith, foldTerminals-counted (n + 1) ts)
 
-stays : (r : Rule) → ((t : Terminal) → ruled r t ≡ r) → (ts : List Terminal) → over ruled r ts ≡ r
+stays : (r : Rule) → ((t : Terminal) → ruled r t ≡ r) → (ts : List Terminal) → foldTerminals ruled r ts ≡ r
 stays r h [] = refl
-stays r h (t ∷ ts) = ap (λ q. over ruled q ts) (h t) ∙ stays r h ts
+stays r h (t ∷ ts) = ap (λ q. foldTerminals ruled q ts) (h t) ∙ stays r h ts
 
-kept : (ts : List Terminal) → refusalOf (over ruled Rule.Kept ts) ≡ missing ts
+kept : (ts : List Terminal) → refusalOf (foldTerminals ruled Rule.Kept ts) ≡ missing ts
 unfolding refusalOf
 kept [] = refl
 kept (Terminal.Other ∷ ts) = kept ts
@@ -48,7 +48,7 @@ kept (Terminal.PriceOracle1 ∷ ts) = rw (stays Rule.Missing (λ t. refl) ts)
 kept (Terminal.PriceOracle1W ∷ ts) = kept ts
 
 -- an expression has a terminal
-ruled-rule : (xs ys : List Terminal) → (xs ≡ [] → ⊥) → refusalOf (over ruled Rule.Unseen (xs ++ ys)) ≡ rule xs ys
+ruled-rule : (xs ys : List Terminal) → (xs ≡ [] → ⊥) → refusalOf (foldTerminals ruled Rule.Unseen (xs ++ ys)) ≡ rule xs ys
 unfolding refusalOf
 ruled-rule [] ys h = absurd (h refl)
 ruled-rule (Terminal.Other ∷ xs) ys h = kept (xs ++ ys)
@@ -93,7 +93,7 @@ unfolding oracles oracleRule
 judged-summary (Arith.Compare o x y) ds vs is =
     judged-as (Arith.Compare o x y) (summary (record { values = vs; indexes = is; conditions = Arith.Compare o x y ∷ ds }))
     (summary-tokens (Arith.Compare o x y) ds vs is)
-    (summary-oracles o x y ds vs is ∙ over-counted 0 (terminals x ++ terminals y) ∙ zero-add (oraclesIn (terminals x ++ terminals y)))
+    (summary-oracles o x y ds vs is ∙ foldTerminals-counted 0 (terminals x ++ terminals y) ∙ zero-add (oraclesIn (terminals x ++ terminals y)))
     (ap refusalOf (summary-rule o x y ds vs is) ∙ ruled-rule (terminals x) (terminals y) (some-terminal x))
 
 -- of a walk that has ended

@@ -2,3 +2,4 @@
 pub mod Steps
 pub mod Trees
 pub mod Checks
+pub mod Onward

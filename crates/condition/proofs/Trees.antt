@@ -22,7 +22,7 @@ use Rattle.semantics.proofs.ParseCode.{waiting}
 use Rattle.semantics.proofs.Tests.{and-true}
 use Rattle.condition.specs.declared.Rule.{Rule}
 use Rattle.condition.specs.declared.Summary.{Summary}
-use Rattle.condition.specs.Walk.{counted, ended, next, over, ruled, summaryStep, terminalsOf, tokensOf, waits, walked}
+use Rattle.condition.specs.Walk.{counted, ended, next, foldTerminals, ruled, summaryStep, terminalsOf, tokensOf, waits, walked}
 
 -- the tokens and the terminals of the trees that wait
 exprTokens : List Expr → ℕ
@@ -53,8 +53,8 @@ summary w =
       indexes = length (w .indexes);
       conditions = length (w .conditions);
       tokens = tokensIn (w .conditions) (w .values) (w .indexes);
-      oracles = over counted 0 (terminalsIn (w .conditions) (w .values));
-      rule = over ruled Rule.Unseen (terminalsIn (w .conditions) (w .values));
+      oracles = foldTerminals counted 0 (terminalsIn (w .conditions) (w .values));
+      rule = foldTerminals ruled Rule.Unseen (terminalsIn (w .conditions) (w .values));
     }
 
 -- a command whose need is met adds its tokens and its terminals
@@ -110,26 +110,26 @@ terminals-built (Command.Compare o) n (y ∷ x ∷ []) is e = sym (append-nil (t
 terminals-built (Command.Compare o) n (y ∷ x ∷ z ∷ vs) is e =
     absurd (omega (arith, eqb-true (suc (suc (suc (length vs)))) 2 (and-true (eqb (suc (suc (suc (length vs)))) 2) (eqb (length is) 0) e .0)))
 
-over-append : {A : Type 0} (step : A → Terminal → A) (a : A) (xs ys : List Terminal) → over step a (xs ++ ys) ≡ over step (over step a xs) ys
-over-append step a [] ys = refl
-over-append step a (x ∷ xs) ys = over-append step (step a x) xs ys
+foldTerminals-append : {A : Type 0} (step : A → Terminal → A) (a : A) (xs ys : List Terminal) → foldTerminals step a (xs ++ ys) ≡ foldTerminals step (foldTerminals step a xs) ys
+foldTerminals-append step a [] ys = refl
+foldTerminals-append step a (x ∷ xs) ys = foldTerminals-append step (step a x) xs ys
 
 -- so it makes of the summary what `next` says, once its counts are known
 module _ (c : Command) (n : List ℕ) (vs : List Expr) (is : List IdxExpr) (met : commandRow c .need (length vs) (length is) ≡ true) where
   abbrev new : Waiting
   new = built c n (waiting vs is)
 
-  over-built : {A : Type 0} (step : A → Terminal → A) (a : A)
-      → over step a (terminalsIn (new .conditions) (new .values)) ≡ over step (over step a (valueTerminals vs)) (terminalsOf c)
-  over-built step a = ap (over step a) (terminals-built c n vs is met) ∙ over-append step a (valueTerminals vs) (terminalsOf c)
+  foldTerminals-built : {A : Type 0} (step : A → Terminal → A) (a : A)
+      → foldTerminals step a (terminalsIn (new .conditions) (new .values)) ≡ foldTerminals step (foldTerminals step a (valueTerminals vs)) (terminalsOf c)
+  foldTerminals-built step a = ap (foldTerminals step a) (terminals-built c n vs is met) ∙ foldTerminals-append step a (valueTerminals vs) (terminalsOf c)
 
   waits-built : {v i d : ℕ} → length (new .values) ≡ v → length (new .indexes) ≡ i → length (new .conditions) ≡ d
       → summary new ≡ waits v i d c (summary (waiting vs is))
   unfolding summary
   waits-built p q r =
       let t = tokens-built c n vs is met in
-      let o = over-built counted 0 in
-      let u = over-built ruled Rule.Unseen in
+      let o = foldTerminals-built counted 0 in
+      let u = foldTerminals-built ruled Rule.Unseen in
       λ k. record { values = p k; indexes = q k; conditions = r k; tokens = t k; oracles = o k; rule = u k }
 
 summary-built : (c : Command) (n : List ℕ) (vs : List Expr) (is : List IdxExpr) → commandRow c .need (length vs) (length is) ≡ true
@@ -192,10 +192,10 @@ unfolding summary
 summary-tokens a ds vs is = refl
 
 module _ (o : CmpOp) (x y : Expr) (ds : List Arith) (vs : List Expr) (is : List IdxExpr) where
-  pub summary-oracles : summary (record { values = vs; indexes = is; conditions = Arith.Compare o x y ∷ ds }) .oracles ≡ over counted 0 (terminals x ++ terminals y)
+  pub summary-oracles : summary (record { values = vs; indexes = is; conditions = Arith.Compare o x y ∷ ds }) .oracles ≡ foldTerminals counted 0 (terminals x ++ terminals y)
   unfolding summary
   summary-oracles = refl
 
-  pub summary-rule : summary (record { values = vs; indexes = is; conditions = Arith.Compare o x y ∷ ds }) .rule ≡ over ruled Rule.Unseen (terminals x ++ terminals y)
+  pub summary-rule : summary (record { values = vs; indexes = is; conditions = Arith.Compare o x y ∷ ds }) .rule ≡ foldTerminals ruled Rule.Unseen (terminals x ++ terminals y)
   unfolding summary
   summary-rule = refl

@@ -62,9 +62,9 @@ ruled Rule.WFirst t = Rule.WFirst
 ruled Rule.Missing t = Rule.Missing
 
 -- and after some more
-abbrev pub over : {A : Type 0} → (A → Terminal → A) → A → List Terminal → A
-over step a [] = a
-over step a (t ∷ ts) = over step (step a t) ts
+abbrev pub foldTerminals : {A : Type 0} → (A → Terminal → A) → A → List Terminal → A
+foldTerminals step a [] = a
+foldTerminals step a (t ∷ ts) = foldTerminals step (step a t) ts
 
 -- a summary with a command more, where so many values, indexes and conditions wait then
 abbrev pub waits : ℕ → ℕ → ℕ → Command → Summary → Summary
@@ -74,8 +74,8 @@ waits v i d c s =
       indexes = i;
       conditions = d;
       tokens = s .tokens + tokensOf c;
-      oracles = over counted (s .oracles) (terminalsOf c);
-      rule = over ruled (s .rule) (terminalsOf c);
+      oracles = foldTerminals counted (s .oracles) (terminalsOf c);
+      rule = foldTerminals ruled (s .rule) (terminalsOf c);
     }
 
 -- what a command whose need is met makes of a summary

@@ -1,0 +1,114 @@
+-- What Evaluate answers, by Check's answer, the tests that follow it, and the run.
+use Prim.Native.Nat.{ℕ, _*_, _≤_, _<_}
+use mathlib.Core.Path.{_≡_}
+use mathlib.Core.Bool.{Bool, true, false, _&&_}
+use mathlib.Core.List.{List, [], _∷_}
+use native.Mathlib.Omega.{arith}
+use borrow.Author.Tests.{eqb-true, le-leb, lt-leb}
+use lib.Dec.{eqb, leb}
+use lib.ListN.{length}
+use lib.Seq.{take-length}
+use Rattle.num64.specs.Bytes.{Bytes}
+use Rattle.semantics.specs.declared.Checked.{Checked}
+use Rattle.semantics.specs.declared.Refusal.{Refusal}
+use Rattle.semantics.specs.Check.{Condition, checked, condition, firstOf, unless}
+use Rattle.semantics.specs.Evaluate.{Evaluation, Lent, areMarks, ended, endsSound, envSound, evaluated, evaluatedTree, initial, paired, refusedCall, unlessRefused}
+use Rattle.semantics.specs.Code.{maxTokens}
+use Rattle.semantics.specs.Evaluation.{Amounts, Env, evalArith}
+use Rattle.semantics.specs.Oracle.{oracles}
+use Rattle.semantics.specs.Parse.{fold, instructions}
+use Rattle.semantics.specs.Trees.{Arith}
+use Rattle.semantics.proofs.Passing.{answered-passed, answered-refused, passing}
+use Rattle.semantics.proofs.Run.{Run, run-code, runStep}
+use Rattle.semantics.proofs.Tests.{and-true}
+use Rattle.condition.proofs.Onward.{accepted, accepted-oracles}
+use Rattle.evaluation.specs.Elements.{leftOf, stateOf}
+use Rattle.evaluation.specs.Lists.{Paired}
+use Rattle.evaluation.specs.Run.{Answers, Bounded}
+
+-- sound lists are paired
+paired-lengths : (a : Amounts) → paired a ≡ true → length (a .numbers) ≡ length (a .marks)
+paired-lengths a e =
+    eqb-true (length (a .numbers)) (length (a .marks)) (and-true (eqb (length (a .numbers)) (length (a .marks))) (areMarks (a .marks)) e .0)
+
+pub sound-paired : (env : Env) → envSound env ≡ true → Paired env
+sound-paired env e =
+    let n : Amounts → ℕ = λ a. length (a .numbers) in
+    let x = eqb (n (env .issued)) (n (env .spent)) in
+    let y = eqb (n (env .reissued)) (n (env .spent)) in
+    let a = paired (env .spent) in
+    let b = paired (env .outputs) in
+    let c = paired (env .issued) in
+    let d = paired (env .reissued) in
+    let p = and-true (a && b && c && d && x) y e in
+    let q = and-true (a && b && c && d) x (p .0) in
+    let r = and-true (a && b && c) d (q .0) in
+    let s = and-true (a && b) c (r .0) in
+    let t = and-true a b (s .0) in
+    record {
+      spent = paired-lengths (env .spent) (t .0);
+      outputs = paired-lengths (env .outputs) (t .1);
+      issued = paired-lengths (env .issued) (s .1);
+      reissued = paired-lengths (env .reissued) (r .1);
+    }
+
+-- before the first step
+initial-state : (l : Lent) → stateOf (l .witness) (l .ends) (l .buffer) (length (l .ends)) 0 ≡ initial l
+unfolding initial leftOf
+initial-state l = rw (take-length (l .ends))
+
+-- 1 to 5
+pub refused-first : (b : List ℕ) (l : Lent) (r : Refusal) → checked b ≡ Checked.Refused r → refusedCall r l ≡ evaluated b l
+unfolding checked evaluated
+refused-first b l r e = rw (answered-refused (condition b) r e)
+
+-- a condition that passes is a tree
+module _ (b : List ℕ) (bytes : Bytes b) (l : Lent) (n m : ℕ) (passes : checked b ≡ Checked.Passed n m) where
+  pub record Known : Type 0 where
+    pub tree : Arith
+    pub is : condition b ≡ Condition.passed tree
+    pub few : oracles tree ≡ m
+
+  known : Known
+  unfolding checked
+  known = let k = answered-passed (condition b) n m passes in record { tree = k .0; is = k .1; few = k .3 }
+
+  abbrev sized : Bool
+  sized = leb (112 * m) (length (l .buffer))
+
+  -- 8, then 12, then 7
+  abbrev guarded : Bool → Bool → Bool → Evaluation
+  guarded amounts ends room =
+      unlessRefused (firstOf (unless amounts Refusal.AmountsUnsound ∷ unless ends Refusal.WitnessUnsound ∷ unless room Refusal.BufferTooShort ∷ [])) l
+      (ended (l .buffer) (evalArith (l .env) (known .tree) (initial l)))
+
+  guards : evaluated b l ≡ guarded (envSound (l .env)) (endsSound 0 (length (l .witness)) (l .ends)) sized
+  unfolding evaluated evaluatedTree
+  guards = rw (known .is, known .few)
+
+  pub refused-amounts : envSound (l .env) ≡ false → refusedCall Refusal.AmountsUnsound l ≡ evaluated b l
+  refused-amounts p = rw (guards, p)
+
+  pub refused-witness : envSound (l .env) ≡ true → endsSound 0 (length (l .witness)) (l .ends) ≡ false → refusedCall Refusal.WitnessUnsound l ≡ evaluated b l
+  refused-witness p q = rw (guards, p, q)
+
+  module _ (p : envSound (l .env) ≡ true) (q : endsSound 0 (length (l .witness)) (l .ends) ≡ true) where
+    pub refused-buffer : length (l .buffer) < 112 * m → refusedCall Refusal.BufferTooShort l ≡ evaluated b l
+    refused-buffer h = rw (guards, p, q, lt-leb (112 * m) (length (l .buffer)) h)
+
+    pub answers : 112 * m ≤ length (l .buffer) → (e : Evaluation)
+        → Answers (l .buffer) (fold (runStep (l .env)) (Run.going [] [] (stateOf (l .witness) (l .ends) (l .buffer) (length (l .ends)) 0)) (instructions b)) e
+        → e ≡ evaluated b l
+    answers h e r =
+        let k = passing b bytes (known .tree) (known .is) in
+        let s = rw (initial-state l, ← k .coded, run-code (l .env) (known .tree) (k .encodable) (initial l)) at r in
+        rw (guards, p, q, le-leb (112 * m) (length (l .buffer)) h) s
+
+-- what the run needs of it
+pub bounded : (b : List ℕ) (n m size : ℕ) → checked b ≡ Checked.Passed n m → 112 * m ≤ size → Bounded b n size
+bounded b n m size e h =
+    let a = accepted b n m e in
+    record { last = a .last; walk = a .walk; tokens-are = a .tokens-are; few = a .few; room = omega (arith, a .oracles-are, h) }
+
+pub few-oracles : (b : List ℕ) (n m : ℕ) → checked b ≡ Checked.Passed n m → m ≤ maxTokens
+few-oracles b n m e = let a = accepted b n m e in omega (arith, a .few, accepted-oracles b n m a)

@@ -1,0 +1,13 @@
+-- The amount is the callee's; it goes by no current index.
+use borrow.Author.Needs.{needs}
+use Rattle.evaluation.proofs.run.step_lookup.Statement.{statement}
+use Rattle.evaluation.proofs.run.step_lookup.Tie as tie
+
+pub step-lookup-spec : {M : Type 1} → statement M
+step-lookup-spec =
+    tie.close
+    (tie.spec
+    (λ c κs. c .before .before .before .before .before .before .before .before .pre .0)
+    (λ c κs. c .before .before .before .before .before .before .before .before .before .before .pre .1)
+    (λ c. search needs)
+    (λ c. λ current idxs st. rw (← c .before .before .before .looked-up .ensures) (c .before .push-value .ensures idxs st)))
