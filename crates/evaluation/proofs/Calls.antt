@@ -22,8 +22,8 @@ use Rattle.semantics.proofs.Passing.{answered-passed, answered-refused, passing
 use Rattle.semantics.proofs.Run.{Run, run-code, runStep}
 use Rattle.semantics.proofs.Tests.{and-true}
 use Rattle.condition.proofs.Onward.{accepted, accepted-oracles}
-use Rattle.evaluation.specs.Elements.{leftOf, stateOf}
-use Rattle.evaluation.specs.Lists.{Paired}
+use Rattle.operations.specs.Elements.{leftOf, stateOf}
+use Rattle.operations.specs.Lists.{Paired}
 use Rattle.evaluation.specs.Run.{Answers, Bounded}
 
 -- sound lists are paired

@@ -29,9 +29,9 @@ use Rattle.condition.specs.Walk.{counted, foldTerminals, next, start, terminals
 use Rattle.condition.proofs.Onward.{Onward, SoFar, height, inside, next-oracles, next-tokens, onward, oracles-grow, so-far, some-token}
 use Rattle.condition.proofs.Steps.{walkFrom}
 use Rattle.evaluation.specs.declared.stacks.Turn.{Turn}
-use Rattle.evaluation.specs.Elements.{stateOf}
+use Rattle.operations.specs.Elements.{stateOf}
 use Rattle.evaluation.specs.Run.{Answers, Fits, Moves, Ready, Supplied, concluded, indexesIn, runOf, stackOf, valuesIn}
-use Rattle.evaluation.proofs.Elements.{left-count}
+use Rattle.operations.proofs.Elements.{left-count}
 use Rattle.evaluation.proofs.Stack.{length-stack}
 
 -- ---- how many wait after a command that goes on

@@ -1,4 +1,1 @@
-pub mod Lists
-pub mod Elements
-pub mod Oracle
 pub mod Run

@@ -11,15 +11,12 @@ ghost use lib.ListN.{length};
 ghost use Rattle.semantics.specs.Evaluate.{endsSound, evaluated};
 ghost use Rattle.semantics.specs.Parse.{fold, instructions};
 ghost use Rattle.semantics.proofs.Run.{Run, runStep};
-ghost use Rattle.evaluation.specs.Lists.{Paired, envOf};
-ghost use Rattle.evaluation.specs.Elements.{stateOf};
+ghost use Rattle.operations.specs.Lists.{Paired, envOf};
+ghost use Rattle.operations.specs.Elements.{stateOf};
 ghost use Rattle.evaluation.specs.Run.{Answers, Bounded};
 
-mod amounts;
-mod operations;
 mod run;
 mod stacks;
-mod witness;
 
 // Conditions of so few tokens are evaluated in smaller arrays, which take less time to make.
 const FEW_TOKENS: usize = 64;
@@ -120,7 +117,7 @@ pub fn evaluate(
     match condition::check(code) {
         Checked::Refused(r) => refused(r, ends.len()),
         Checked::Passed { tokens, oracles } => {
-            if !amounts::amounts_sound(
+            if !operations::amounts::amounts_sound(
                 spent,
                 spent_marks,
                 outputs,
@@ -132,7 +129,7 @@ pub fn evaluate(
             ) {
                 return refused(Refusal::AmountsUnsound, ends.len());
             }
-            if !witness::ends_sound(ends, witness.len()) {
+            if !operations::witness::ends_sound(ends, witness.len()) {
                 return refused(Refusal::WitnessUnsound, ends.len());
             }
             if out.len() < 112 * oracles {

@@ -1,5 +1,4 @@
 // One pass over the commands of a condition that Check let pass.
-use crate::amounts::looked_up;
 use crate::stacks::Turn;
 use crate::stacks::last_index;
 use crate::stacks::push_index;
@@ -8,8 +7,9 @@ use crate::stacks::step_binary;
 use crate::stacks::step_compare;
 use crate::stacks::step_index;
 use crate::stacks::step_unary;
-use crate::witness::ask;
 use num64::Step;
+use operations::amounts::looked_up;
+use operations::witness::ask;
 use semantics::AmountList;
 use semantics::Command;
 use semantics::Evaluated;
@@ -27,9 +27,9 @@ ghost use Rattle.semantics.specs.Evaluation.{State, lookedUp, oracle, outcome};
 ghost use Rattle.semantics.specs.Evaluate.{endsSound};
 ghost use Rattle.semantics.specs.Parse.{fold, instructions};
 ghost use Rattle.semantics.proofs.Run.{Run, act, pushValue, runStep};
-ghost use Rattle.evaluation.specs.Lists.{Paired, envOf};
-ghost use Rattle.evaluation.specs.Elements.{stateOf};
-ghost use Rattle.evaluation.specs.Oracle.{Asks, keyAt, timeAt};
+ghost use Rattle.operations.specs.Lists.{Paired, envOf};
+ghost use Rattle.operations.specs.Elements.{stateOf};
+ghost use Rattle.operations.specs.Oracle.{Asks, keyAt, timeAt};
 ghost use Rattle.evaluation.specs.Run.{Answers, Fits, Moves, Ready, Supplied, indexesIn, runOf, valuesIn};
 
 // An oracle terminal, whose key and time stand at `at`: its price is pushed.

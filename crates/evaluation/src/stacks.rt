@@ -65,7 +65,7 @@ pub fn step_index(op: IdxOp, idxs: &mut [u64], values: usize, indexes: usize) ->
     requires { ⌜ (2 ≤ indexes) × (indexes ≤ length (now idxs)) ⌝ }
     ensures { λ r. ⌜ ((vals : List ℤ) (st : State) → let is = indexesIn (now (idxs .entry)) indexes in runOf vals (now (idxs .exit)) st r ≡ pushIndex (valuesIn vals values) (drop 2 is) st (idxRow op .result (operand is 1) (operand is 0))) ⌝ }
 {
-    let s = crate::operations::index(op, idxs[indexes - 2], idxs[indexes - 1]);
+    let s = operations::index(op, idxs[indexes - 2], idxs[indexes - 1]);
     push_index(idxs, s, values, indexes - 2)
 }
 
@@ -74,7 +74,7 @@ pub fn step_binary(op: BinOp, vals: &mut [i64], values: usize, indexes: usize) -
     requires { ⌜ (2 ≤ values) × (values ≤ length (now vals)) ⌝ }
     ensures { λ r. ⌜ ((idxs : List ℕ) (st : State) → let vs = valuesIn (now (vals .entry)) values in runOf (now (vals .exit)) idxs st r ≡ pushValue (drop 2 vs) (indexesIn idxs indexes) (outcome (binRow op .result (operand vs 1) (operand vs 0)) st)) ⌝ }
 {
-    let v = crate::operations::binary(op, vals[values - 2], vals[values - 1]);
+    let v = operations::binary(op, vals[values - 2], vals[values - 1]);
     push_value(vals, v, values - 2, indexes)
 }
 
@@ -82,7 +82,7 @@ pub fn step_unary(op: UnOp, vals: &mut [i64], values: usize, indexes: usize) -> 
     requires { ⌜ (1 ≤ values) × (values ≤ length (now vals)) ⌝ }
     ensures { λ r. ⌜ ((idxs : List ℕ) (st : State) → let vs = valuesIn (now (vals .entry)) values in runOf (now (vals .exit)) idxs st r ≡ pushValue (drop 1 vs) (indexesIn idxs indexes) (outcome (unRow op .result (operand vs 0)) st)) ⌝ }
 {
-    let v = crate::operations::unary(op, vals[values - 1]);
+    let v = operations::unary(op, vals[values - 1]);
     push_value(vals, v, values - 1, indexes)
 }
 
@@ -91,5 +91,5 @@ pub fn step_compare(op: CmpOp, vals: &[i64], values: usize) -> Turn
     requires { ⌜ (2 ≤ values) × (values ≤ length (now vals)) ⌝ }
     ensures { λ r. ⌜ ((idxs : List ℕ) (st : State) → let vs = valuesIn (now (vals .entry)) values in runOf (now (vals .entry)) idxs st r ≡ Run.stopped (ok (cmpRow op .result (operand vs 1) (operand vs 0)) st)) ⌝ }
 {
-    Turn::Ended(Verdict::Is(crate::operations::compare(op, vals[values - 2], vals[values - 1])))
+    Turn::Ended(Verdict::Is(operations::compare(op, vals[values - 2], vals[values - 1])))
 }

@@ -6,7 +6,7 @@ use native.Mathlib.Omega.{arith}
 use borrow.Author.Tests.{not-false, not-true}
 use Rattle.num64.proofs.Bytes.{all-of}
 use Rattle.semantics.specs.Evaluate.{Lent}
-use Rattle.evaluation.specs.Lists.{envOf}
+use Rattle.operations.specs.Lists.{envOf}
 use Rattle.evaluation.proofs.Calls.{answers, bounded, few-oracles, refused-amounts, refused-buffer, refused-first, refused-witness, sound-paired}
 use Rattle.evaluation.proofs.evaluate.Statement.{statement}
 use Rattle.evaluation.proofs.evaluate.Tie as tie

@@ -4,7 +4,7 @@ use Prim.Native.Nat.{suc, _+_, _-_}
 use mathlib.Core.Path.{_≡_, refl}
 use native.Mathlib.Omega.{arith}
 use lib.ListN.{length}
-use Rattle.evaluation.specs.Lists.{envOf}
+use Rattle.operations.specs.Lists.{envOf}
 use Rattle.evaluation.proofs.Loop.{Loop, loop-ended, loop-inside, loop-next, loop-ready, loop-start, loop-supplied}
 use Rattle.evaluation.proofs.run.run.Statement.{statement}
 use Rattle.evaluation.proofs.run.run.Tie as tie

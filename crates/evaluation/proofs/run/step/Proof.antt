@@ -1,6 +1,6 @@
 -- A command is the one that its arm knows; witness and checks change with an oracle terminal alone (`rests`).
 use borrow.Author.Needs.{needs, sfits-of}
-use Rattle.evaluation.specs.Elements.{stateOf}
+use Rattle.operations.specs.Elements.{stateOf}
 use native.Mathlib.Omega.{arith}
 use mir.Facts.{toZ-ofZ}
 use Rattle.num64.proofs.Laws.{in-range}

@@ -1,0 +1,34 @@
+-- The index and the mark are the tests; a signed number is held by its bits.
+use borrow.Author.Needs.{needs, sfits-of}
+use mir.Facts.{toZ-ofZ}
+use borrow.Author.Tests.{eq-eqb, le-ltb, lt-ltb, ne-eqb}
+use Rattle.semantics.specs.Evaluation.{amount}
+use Rattle.operations.proofs.amounts.amount_at.Statement.{statement}
+use Rattle.operations.proofs.amounts.amount_at.Tie as tie
+
+returns : tie.Need-returns
+unfolding amount
+returns c = rw (le-ltb _ _ (c .before .if1 .taken), c .outside .ensures)
+
+returns-2 : tie.Need-returns-2
+unfolding amount
+returns-2 c = rw (lt-ltb _ _ (c .before .before .before .if1 .left), ne-eqb _ _ (c .before .if2 .taken), c .hidden .ensures)
+
+returns-3 : tie.Need-returns-3
+unfolding amount
+returns-3 c =
+    rw (lt-ltb _ _ (c .before .before .before .before .if1 .left), eq-eqb _ _ (c .before .before .if2 .left), toZ-ofZ (sfits-of (c .signed .ok)), c .signed .ensures)
+
+pub amount-at-spec : {M : Type 1} → statement M
+amount-at-spec =
+    tie.close
+    (tie.spec
+    (λ c κs. search needs)
+    returns
+    (λ c. search needs)
+    (λ c κs. search needs)
+    returns-2
+    (λ c. search needs)
+    (λ c. search needs)
+    (λ c κs. search needs)
+    returns-3)

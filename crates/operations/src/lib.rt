@@ -1,0 +1,72 @@
+// What the commands compute: operations on numbers and on indexes here, amounts and oracle terminals in their modules.
+use num64::Signed64;
+use num64::Step;
+use semantics::BinOp;
+use semantics::CmpOp;
+use semantics::IdxOp;
+use semantics::Refusal;
+use semantics::UnOp;
+use semantics::Value;
+ghost use mathlib.Core.Path.{_≡_};
+ghost use lib.IntN.{pos};
+ghost use Rattle.num64.specs.Steps.{stepped};
+ghost use Rattle.semantics.specs.Operations.{binRow, cmpRow, idxRow, orRefused, unRow};
+
+pub mod amounts;
+pub mod witness;
+
+fn or_refused(s: Signed64, r: Refusal) -> Value
+    ensures { λ v. ⌜ v ≡ orRefused s r ⌝ }
+{
+    match s {
+        Signed64::Value(z) => Value::Number(z),
+        Signed64::Overflow => Value::Refused(r),
+    }
+}
+
+pub fn binary(op: BinOp, x: i64, y: i64) -> Value
+    ensures { λ r. ⌜ r ≡ binRow op .result x y ⌝ }
+{
+    match op {
+        BinOp::Add => or_refused(num64::checked_add(x, y), Refusal::AddOverflow(x, y)),
+        BinOp::Sub => or_refused(num64::checked_sub(x, y), Refusal::SubOverflow(x, y)),
+        BinOp::Mul => or_refused(num64::checked_mul(x, y), Refusal::MulOverflow(x, y)),
+        BinOp::Div => or_refused(num64::checked_div_euclid(x, y), Refusal::DivOverflow(x, y)),
+        BinOp::Mod => or_refused(num64::checked_rem_euclid(x, y), Refusal::ModOverflow(x, y)),
+        BinOp::BitAnd => Value::Number(num64::bitand(x, y)),
+        BinOp::BitOr => Value::Number(num64::bitor(x, y)),
+        BinOp::Xor => Value::Number(num64::xor(x, y)),
+    }
+}
+
+pub fn unary(op: UnOp, x: i64) -> Value
+    ensures { λ r. ⌜ r ≡ unRow op .result x ⌝ }
+{
+    match op {
+        UnOp::Invert => Value::Number(num64::invert(x)),
+        UnOp::Negate => or_refused(num64::checked_neg(x), Refusal::NegOverflow(x)),
+    }
+}
+
+pub fn compare(op: CmpOp, x: i64, y: i64) -> bool
+    ensures { λ r. ⌜ r ≡ cmpRow op .result x y ⌝ }
+{
+    match op {
+        CmpOp::Eq => num64::eq(x, y),
+        CmpOp::Lt => num64::lt(x, y),
+        CmpOp::Leq => num64::leq(x, y),
+        CmpOp::Gt => num64::gt(x, y),
+        CmpOp::Geq => num64::geq(x, y),
+    }
+}
+
+pub fn index(op: IdxOp, x: u64, y: u64) -> Step
+    ensures { λ r. ⌜ stepped r ≡ idxRow op .result (pos x) (pos y) ⌝ }
+{
+    match op {
+        IdxOp::Add => num64::step_add(x, y),
+        IdxOp::Sub => num64::step_sub(x, y),
+        IdxOp::Mul => num64::step_mul(x, y),
+        IdxOp::Div => num64::step_div(x, y),
+    }
+}

@@ -1,0 +1,308 @@
+// The witness: whether its ends are sound, and an oracle terminal, which pops price, time and signature and lists a check.
+use semantics::Refusal;
+use semantics::Value;
+ghost use mathlib.Core.Bool.{true};
+ghost use mathlib.Core.Path.{_≡_};
+ghost use mathlib.Core.List.{_++_};
+ghost use Prim.Native.Nat.{_+_, _*_, _≤_, _<_};
+ghost use lib.ListN.{length, take, drop};
+ghost use lib.Seq.{paste};
+ghost use Rattle.semantics.specs.Evaluate.{endsSound};
+ghost use Rattle.semantics.specs.Evaluation.{oracle};
+ghost use Rattle.operations.specs.Elements.{popped, taken};
+ghost use Rattle.operations.specs.Oracle.{Asks, Gives, afterPrice, afterSignature, afterTime, checkOf, keyAt, priced, timeAt};
+
+// Where an element that was popped starts and ends, if there was one.
+pub enum Element {
+    Missing,
+    Span(usize, usize),
+}
+
+// An element that was popped, and how many are left.
+pub struct Popped {
+    pub element: Element,
+    pub left: usize,
+}
+
+// Where an element of the right width starts, or why there is none.
+pub enum Place {
+    At(usize),
+    Refused(Refusal),
+}
+
+pub struct Taken {
+    pub place: Place,
+    pub left: usize,
+}
+
+// What an oracle terminal gives, with how many elements are left and checks written.
+pub struct Answered {
+    pub value: Value,
+    pub left: usize,
+    pub checks: usize,
+}
+
+// ---- refusal 12
+
+pub fn ends_sound(ends: &[u32], size: usize) -> bool
+    ensures { λ r. ⌜ r ≡ endsSound 0 size (now (ends .entry)) ⌝ }
+{
+    let mut last = 0;
+    let mut i = 0;
+    while i < ends.len() {
+        let end = ends[i] as usize;
+        if end < last {
+            return false;
+        }
+        if size < end {
+            return false;
+        }
+        last = end;
+        i += 1;
+    }
+    true
+}
+
+// ---- popping
+
+// The top one of so many elements: every pop is this one.
+fn pop(ends: &[u32], left: usize) -> Popped
+    requires { ⌜ left ≤ length (now ends) ⌝ }
+    ensures { λ r. ⌜ r ≡ popped (now (ends .entry)) left ⌝ }
+{
+    if left == 0 {
+        return Popped {
+            element: Element::Missing,
+            left,
+        };
+    }
+    let k = left - 1;
+    let end = ends[k] as usize;
+    if k == 0 {
+        return Popped {
+            element: Element::Span(0, end),
+            left: k,
+        };
+    }
+    Popped {
+        element: Element::Span(ends[k - 1] as usize, end),
+        left: k,
+    }
+}
+
+// The top element, which must have a width; a popped element stays popped.
+fn take(ends: &[u32], left: usize, width: usize, absent: Refusal, wrong: Refusal) -> Taken
+    requires { ⌜ (left ≤ length (now ends)) × (width ≤ 64) ⌝ }
+    ensures { λ r. ⌜ r ≡ taken width absent wrong (popped (now (ends .entry)) left) ⌝ }
+{
+    let p = pop(ends, left);
+    let element = p.element;
+    match element {
+        Element::Missing => Taken {
+            place: Place::Refused(absent),
+            left: p.left,
+        },
+        Element::Span(start, end) => {
+            if end < start {
+                return Taken {
+                    place: Place::Refused(wrong),
+                    left: p.left,
+                };
+            }
+            if end - start != width {
+                return Taken {
+                    place: Place::Refused(wrong),
+                    left: p.left,
+                };
+            }
+            Taken {
+                place: Place::At(start),
+                left: p.left,
+            }
+        }
+    }
+}
+
+// ---- the check
+
+// n bytes of `from`, from `at` on, go to `to`, from `off` on.
+fn copy(from: &[u8], at: usize, to: &mut [u8], off: usize, n: usize)
+    requires { ⌜ (at + n ≤ length (now from)) × (off + n ≤ length (now to)) ⌝ }
+    ensures { λ _. ⌜ now (to .exit) ≡ paste (now (to .entry)) off (drop at (now (from .entry))) n ⌝ }
+{
+    let mut i = 0;
+    while i < n {
+        to[off + i] = from[at + i];
+        i += 1;
+    }
+}
+
+// Check number n: key and time of the terminal, price and signature of the witness.
+fn list_check(
+    code: &[u8],
+    at: usize,
+    witness: &[u8],
+    price: usize,
+    signature: usize,
+    out: &mut [u8],
+    n: usize,
+)
+    requires { ⌜ (at + 40 ≤ length (now code)) × (price + 8 ≤ length (now witness)) × (signature + 64 ≤ length (now witness)) × (112 * n + 112 ≤ length (now out)) ⌝ }
+    ensures { λ _. ⌜ now (out .exit) ≡ take (112 * n) (now (out .entry)) ++ checkOf (now (code .entry)) at (now (witness .entry)) price signature ++ drop (112 * n + 112) (now (out .entry)) ⌝ }
+{
+    let off = 112 * n;
+    copy(code, at, out, off, 40);
+    copy(witness, price, out, off + 40, 8);
+    copy(witness, signature, out, off + 48, 64);
+}
+
+// A price as a value: the numbers from 2^63 on have none.
+fn price_value(price: u64) -> Value
+    ensures { λ r. ⌜ r ≡ priced price ⌝ }
+{
+    if price < 0x8000_0000_0000_0000 {
+        Value::Number(price as i64)
+    } else {
+        Value::Refused(Refusal::PriceOverflow)
+    }
+}
+
+// ---- the oracle terminal whose key and time stand at `at`
+
+// After its three pops: the time is judged, the check listed, and then the price judged.
+fn judge(
+    code: &[u8],
+    at: usize,
+    witness: &[u8],
+    ends: &[u32],
+    price: usize,
+    time: usize,
+    signature: usize,
+    out: &mut [u8],
+    left: usize,
+    checks: usize,
+) -> Answered
+    requires { ⌜ Asks (now code) at (now witness) (now ends) (now out) left checks × (price + 8 ≤ length (now witness)) × (time + 8 ≤ length (now witness)) × (signature + 64 ≤ length (now witness)) ⌝ }
+    ensures { λ r. ⌜ Gives (afterSignature (keyAt (now (code .entry)) at) (timeAt (now (code .entry)) at) (take 8 (drop price (now (witness .entry)))) (take 8 (drop time (now (witness .entry)))) (take 64 (drop signature (now (witness .entry))))) (now (witness .entry)) (now (ends .entry)) (now (out .entry)) (now (out .exit)) left checks r ⌝ }
+{
+    if num64::read_le64(code, at + 32) < num64::read_le64(witness, time) {
+        return Answered {
+            value: Value::Refused(Refusal::TimestampInFuture),
+            left,
+            checks,
+        };
+    }
+    list_check(code, at, witness, price, signature, out, checks);
+    Answered {
+        value: price_value(num64::read_le64(witness, price)),
+        left,
+        checks: checks + 1,
+    }
+}
+
+// After price and time.
+fn after_time(
+    code: &[u8],
+    at: usize,
+    witness: &[u8],
+    ends: &[u32],
+    price: usize,
+    time: usize,
+    out: &mut [u8],
+    left: usize,
+    checks: usize,
+) -> Answered
+    requires { ⌜ Asks (now code) at (now witness) (now ends) (now out) left checks × (price + 8 ≤ length (now witness)) × (time + 8 ≤ length (now witness)) ⌝ }
+    ensures { λ r. ⌜ Gives (afterTime (keyAt (now (code .entry)) at) (timeAt (now (code .entry)) at) (take 8 (drop price (now (witness .entry)))) (take 8 (drop time (now (witness .entry))))) (now (witness .entry)) (now (ends .entry)) (now (out .entry)) (now (out .exit)) left checks r ⌝ }
+{
+    let t = take(
+        ends,
+        left,
+        64,
+        Refusal::MissingOracleSignature,
+        Refusal::MalformedSig,
+    );
+    let place = t.place;
+    match place {
+        Place::At(signature) => judge(
+            code,
+            at,
+            witness,
+            ends,
+            price,
+            time,
+            signature,
+            out,
+            t.left,
+            checks,
+        ),
+        Place::Refused(r) => Answered {
+            value: Value::Refused(r),
+            left: t.left,
+            checks,
+        },
+    }
+}
+
+// After the price.
+fn after_price(
+    code: &[u8],
+    at: usize,
+    witness: &[u8],
+    ends: &[u32],
+    price: usize,
+    out: &mut [u8],
+    left: usize,
+    checks: usize,
+) -> Answered
+    requires { ⌜ Asks (now code) at (now witness) (now ends) (now out) left checks × (price + 8 ≤ length (now witness)) ⌝ }
+    ensures { λ r. ⌜ Gives (afterPrice (keyAt (now (code .entry)) at) (timeAt (now (code .entry)) at) (take 8 (drop price (now (witness .entry))))) (now (witness .entry)) (now (ends .entry)) (now (out .entry)) (now (out .exit)) left checks r ⌝ }
+{
+    let t = take(
+        ends,
+        left,
+        8,
+        Refusal::MissingTimestamp,
+        Refusal::Timstamp8BytePush,
+    );
+    let place = t.place;
+    match place {
+        Place::At(time) => after_time(code, at, witness, ends, price, time, out, t.left, checks),
+        Place::Refused(r) => Answered {
+            value: Value::Refused(r),
+            left: t.left,
+            checks,
+        },
+    }
+}
+
+// Price, then time, then signature, each judged before the next pop.
+pub fn ask(
+    code: &[u8],
+    at: usize,
+    witness: &[u8],
+    ends: &[u32],
+    out: &mut [u8],
+    left: usize,
+    checks: usize,
+) -> Answered
+    requires { ⌜ Asks (now code) at (now witness) (now ends) (now out) left checks ⌝ }
+    ensures { λ r. ⌜ Gives (oracle (keyAt (now (code .entry)) at) (timeAt (now (code .entry)) at)) (now (witness .entry)) (now (ends .entry)) (now (out .entry)) (now (out .exit)) left checks r ⌝ }
+{
+    let t = take(
+        ends,
+        left,
+        8,
+        Refusal::MissingPrice,
+        Refusal::Price8BytePush,
+    );
+    let place = t.place;
+    match place {
+        Place::At(price) => after_price(code, at, witness, ends, price, out, t.left, checks),
+        Place::Refused(r) => Answered {
+            value: Value::Refused(r),
+            left: t.left,
+            checks,
+        },
+    }
+}
