@@ -1,125 +1,120 @@
 // Document 01's worked examples as a table: the example's number, what is asked, and what is answered.
-use libc::STDOUT_FILENO;
-use num64::Signed64;
-use num64::Step;
-use semantics::Checked;
-use semantics::Refusal;
+mod print;
+
+use num64::bits;
+use num64::write_le64;
+use print::text;
 
 const LEAST: i64 = -0x7fff_ffff_ffff_ffff - 1;
 
 const GREATEST: i64 = 0x7fff_ffff_ffff_ffff;
 
-// ---- printing
-
-fn text(bytes: &[u8]) {
-    io::write_all(STDOUT_FILENO, bytes);
+// Two inputs, of explicit amounts 2^63 and 7, without issuances, and no outputs; the coins come in at `input`.
+fn evaluate(code: &[u8], input: u64) {
+    print::evaluated(evaluation::evaluate(
+        code,
+        &[0x8000_0000_0000_0000, 7],
+        &[1, 1],
+        &[],
+        &[],
+        &[0, 0],
+        &[0, 0],
+        &[0, 0],
+        &[0, 0],
+        input,
+        &[],
+        &[],
+        &mut [],
+    ));
 }
 
-fn number(n: u64) {
-    io::print_decimal(STDOUT_FILENO, n);
-}
-
-fn signed(n: i64) {
-    let bits = num64::bits(n);
-    if bits < 0x8000_0000_0000_0000 {
-        number(bits);
-    } else {
-        text(b"-");
-        number(!bits + 1);
-    }
-}
-
-fn refused(r: Refusal) {
-    let n = semantics::number_of(r);
-    text(b"refusal ");
-    number(n.number as u64);
-    text(b"\n");
-}
-
-// ---- what is answered
-
-fn checked(code: &[u8]) {
-    match condition::check(code) {
-        Checked::Passed { tokens, oracles } => {
-            text(b"0, with ");
-            number(tokens as u64);
-            text(b" tokens and ");
-            number(oracles as u64);
-            text(b" oracle terminals\n");
+// A command with an operand of 8 bytes, where nine bytes stand at the place.
+fn operand(code: &mut [u8], at: usize, command: u8, number: u64) {
+    if at < code.len() {
+        if 9 <= code.len() - at {
+            write_le64(code, at + 1, number);
+            code[at] = command;
         }
-        Checked::Refused(r) => refused(r),
     }
 }
 
-fn value(v: Signed64, refusal: Refusal) {
-    match v {
-        Signed64::Value(n) => {
-            signed(n);
-            text(b"\n");
-        }
-        Signed64::Overflow => refused(refusal),
-    }
+fn constant(code: &mut [u8], at: usize, number: i64) {
+    operand(code, at, 16, bits(number));
 }
 
-fn quotient(a: i64, b: i64) {
-    value(num64::checked_div_euclid(a, b), Refusal::DivOverflow(a, b));
+// x, y, the command of a binary operation, z, `Eq`
+fn binary(x: i64, y: i64, command: u8, z: i64) {
+    let mut code = [0u8; 29];
+    constant(&mut code, 0, x);
+    constant(&mut code, 9, y);
+    code[18] = command;
+    constant(&mut code, 19, z);
+    code[28] = 48;
+    evaluate(&code, 0);
 }
 
-fn remainder(a: i64, b: i64) {
-    value(num64::checked_rem_euclid(a, b), Refusal::ModOverflow(a, b));
+fn quotient(x: i64, y: i64, z: i64) {
+    binary(x, y, 25, z);
 }
 
-fn less_one(index: u64) {
-    match num64::step_sub(index, 1) {
-        Step::Value(n) => {
-            number(n);
-            text(b"\n");
-        }
-        Step::Overflow => refused(Refusal::IndexStep),
-    }
+fn remainder(x: i64, y: i64, z: i64) {
+    binary(x, y, 26, z);
 }
 
-// ---- the rows
+// x, `Negate`, y, `Eq`
+fn negated(x: i64, y: i64) {
+    let mut code = [0u8; 20];
+    constant(&mut code, 0, x);
+    code[9] = 31;
+    constant(&mut code, 10, y);
+    code[19] = 48;
+    evaluate(&code, 0);
+}
 
-fn arithmetic() {
-    text(b" 2  -7 by 2, quotient                       ");
-    quotient(-7, 2);
-    text(b"    -7 by 2, remainder                      ");
-    remainder(-7, 2);
-    text(b" 3  7 by -2, quotient                       ");
-    quotient(7, -2);
-    text(b"    7 by -2, remainder                      ");
-    remainder(7, -2);
-    text(b" 4  -7 by -2, quotient                      ");
-    quotient(-7, -2);
-    text(b"    -7 by -2, remainder                     ");
-    remainder(-7, -2);
-    text(b" 5  -2^63 by -1, quotient                   ");
-    quotient(LEAST, -1);
-    text(b"    -2^63 by -1, remainder                  ");
-    remainder(LEAST, -1);
-    text(b"    -2^63 by 0, quotient                    ");
-    quotient(LEAST, 0);
-    text(b"    -2^63 by 0, remainder                   ");
-    remainder(LEAST, 0);
+fn five_is_five() {
+    let code = b"\x10\x05\x00\x00\x00\x00\x00\x00\x00\x10\x05\x00\x00\x00\x00\x00\x00\x00\x30";
+    text(b" 1  Check: 5 Eq 5                                ");
+    print::checked(condition::check(code));
+    text(b"    Evaluate: 5 Eq 5                             ");
+    evaluate(code, 0);
+}
+
+fn division() {
+    text(b" 2  Evaluate: -7 Div 2 Eq -4                     ");
+    quotient(-7, 2, -4);
+    text(b"    Evaluate: -7 Mod 2 Eq 1                      ");
+    remainder(-7, 2, 1);
+    text(b" 3  Evaluate: 7 Div -2 Eq -3                     ");
+    quotient(7, -2, -3);
+    text(b"    Evaluate: 7 Mod -2 Eq 1                      ");
+    remainder(7, -2, 1);
+    text(b" 4  Evaluate: -7 Div -2 Eq 4                     ");
+    quotient(-7, -2, 4);
+    text(b"    Evaluate: -7 Mod -2 Eq 1                     ");
+    remainder(-7, -2, 1);
+    text(b" 5  Evaluate: -2^63 Div -1 Eq 0                  ");
+    quotient(LEAST, -1, 0);
+    text(b"    Evaluate: -2^63 Mod -1 Eq 0                  ");
+    remainder(LEAST, -1, 0);
+    text(b"    Evaluate: -2^63 Div 0 Eq 0                   ");
+    quotient(LEAST, 0, 0);
+    text(b"    Evaluate: -2^63 Mod 0 Eq 0                   ");
+    remainder(LEAST, 0, 0);
 }
 
 fn limits() {
-    text(b" 6  2^63 - 1 plus 1                         ");
-    value(
-        num64::checked_add(GREATEST, 1),
-        Refusal::AddOverflow(GREATEST, 1),
-    );
-    text(b" 7  negate -2^63                            ");
-    value(num64::checked_neg(LEAST), Refusal::NegOverflow(LEAST));
-    text(b"    negate -2^63 + 1                        ");
-    value(
-        num64::checked_neg(LEAST + 1),
-        Refusal::NegOverflow(LEAST + 1),
-    );
-    text(b" 8  an explicit amount of 2^63              ");
-    signed(num64::signed(0x8000_0000_0000_0000));
-    text(b"\n");
+    text(b" 6  Evaluate: 2^63 - 1 Add 1 Eq 0                ");
+    binary(GREATEST, 1, 22, 0);
+    text(b" 7  Evaluate: Negate -2^63 Eq 0                  ");
+    negated(LEAST, 0);
+    text(b"    Evaluate: Negate -2^63 + 1 Eq 2^63 - 1       ");
+    negated(LEAST + 1, GREATEST);
+    text(b" 8  Evaluate: CurrInputIdx Eq -2^63              ");
+    let mut code = [0u8; 11];
+    code[0] = 17;
+    constant(&mut code, 1, LEAST);
+    code[10] = 48;
+    evaluate(&code, 0);
 }
 
 // Left `Const` + `PriceOracle1`, right `Const`; then left `PriceOracle1W`, right `PriceOracle1`.
@@ -130,25 +125,36 @@ fn oracle_rule() {
     code[50] = 22;
     code[51] = 16;
     code[60] = 48;
-    text(b"12  Check, left Const + PriceOracle1        ");
-    checked(&code[..61]);
+    text(b"12  Check: Const + PriceOracle1 Eq Const         ");
+    print::checked(condition::check(&code[..61]));
     code = [0; 83];
     code[0] = 33;
     code[41] = 32;
     code[82] = 48;
-    text(b"    Check, left 33 first and right 32       ");
-    checked(&code);
+    text(b"    Check: PriceOracle1W Eq PriceOracle1         ");
+    print::checked(condition::check(&code));
+}
+
+// The amount of the input before the current one is 2^63, taken as a signed number.
+fn index_less_one() {
+    let mut code = [0u8; 22];
+    code[0] = 2;
+    operand(&mut code, 1, 1, 1);
+    code[10] = 4;
+    code[11] = 18;
+    constant(&mut code, 12, LEAST);
+    code[21] = 48;
+    text(b"13  Evaluate: Input(CurrIdx - 1) Eq -2^63, at 0  ");
+    evaluate(&code, 0);
+    text(b"    Evaluate: Input(CurrIdx - 1) Eq -2^63, at 1  ");
+    evaluate(&code, 1);
 }
 
 fn main() {
-    text(b"no  asked                                   answered\n");
-    text(b" 1  Check, 5 Eq 5                           ");
-    checked(b"\x10\x05\x00\x00\x00\x00\x00\x00\x00\x10\x05\x00\x00\x00\x00\x00\x00\x00\x30");
-    arithmetic();
+    text(b"no  asked                                        answered\n");
+    five_is_five();
+    division();
     limits();
     oracle_rule();
-    text(b"13  current index less 1, at index 0        ");
-    less_one(0);
-    text(b"    current index less 1, at index 1        ");
-    less_one(1);
+    index_less_one();
 }

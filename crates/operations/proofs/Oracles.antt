@@ -142,15 +142,15 @@ module _ (code : List ℕ) (at : ℕ) (w ends old : List ℕ) (p t q left checks
     judged-listed n e v is =
         record {
           gives =
-            rw (
-              time-is code at time terminal,
-              check-is code at time w p q (take 8 (drop t w)) terminal,
-              le-ltb time (bytesValue (take 8 (drop t w))) intime,
-              ← e,
-              is,
-              front,
-            )
-            (priced-outcome n _ (ltb n (2 ^ 63)));
+              rw (
+                time-is code at time terminal,
+                check-is code at time w p q (take 8 (drop t w)) terminal,
+                le-ltb time (bytesValue (take 8 (drop t w))) intime,
+                ← e,
+                is,
+                front,
+              )
+              (priced-outcome n _ (ltb n (2 ^ 63)));
           fewer = omega arith;
           more = omega arith;
           one = omega arith;

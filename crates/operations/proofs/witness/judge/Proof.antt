@@ -19,7 +19,7 @@ returns-2 c =
     let intime = rw (c .before .before .before .before .before .before .before .read-le642 .ensures .value) at (c .before .before .before .before .before .before .if1 .left) in
     rw (c .before .before .before .before .list-check .ensures)
     (judged-listed (a .code .now) (a .at) (a .witness .now) (a .ends .now) (a .out .now) (a .price) (a .time) (a .signature) (a .left) (a .checks) _ (c .before .before .before .before .before .before .before .before .read-le64 .ensures)
-      (r .0 .room) (r .0 .operands) (r .1) (r .3) intime _ (c .before .read-le643 .ensures .value) _ (c .price-value .ensures))
+    (r .0 .room) (r .0 .operands) (r .1) (r .3) intime _ (c .before .read-le643 .ensures .value) _ (c .price-value .ensures))
 
 pub judge-spec : {M : Type 1} → statement M
 judge-spec =
