@@ -26,6 +26,10 @@ pub popped-some : (ends : List ℕ) (n : ℕ) → 1 ≤ n
 popped-some ends zero h = absurd (omega arith)
 popped-some ends (suc k) h = let e : suc k - 1 ≡ k = omega arith in rw e
 
+pub popped-parts : (ends : List ℕ) (n : ℕ) → record { element = popped ends n .element; left = n - 1 } ≡ popped ends n
+popped-parts ends zero = refl
+popped-parts ends (suc k) = let e : suc k - 1 ≡ k = omega arith in rw e
+
 pub drop-take : (p k : ℕ) (l : List ℕ) → drop p (take (p + k) l) ≡ take k (drop p l)
 drop-take zero k l = let e : zero + k ≡ k = omega arith in rw e
 drop-take (suc p) k [] = let e : suc p + k ≡ suc (p + k) = omega arith in rw e (none k)

@@ -11,6 +11,7 @@ use Rattle.operations.specs.declared.witness.Element.{Element}
 use Rattle.operations.specs.declared.witness.Place.{Place}
 use Rattle.operations.specs.declared.witness.Popped.{Popped}
 use Rattle.operations.specs.declared.witness.Taken.{Taken}
+use Rattle.operations.specs.declared.witness.Witness.{Witness}
 
 -- where element k starts
 abbrev pub startOf : List ℕ → ℕ → ℕ
@@ -21,6 +22,10 @@ startOf ends (suc k) = getD ends k 0
 abbrev pub popped : List ℕ → ℕ → Popped
 popped ends zero = record { element = Element.Missing; left = 0 }
 popped ends (suc k) = record { element = Element.Span (startOf ends k) (getD ends k 0); left = k }
+
+-- the lent count after a pop
+abbrev pub fewer : Witness → Witness
+fewer w = record { left = w .left - 1 }
 
 abbrev pub placed : ℕ → Refusal → Refusal → Element → Place
 placed width absent wrong Element.Missing = Place.Refused absent

@@ -4,13 +4,18 @@ use semantics::Value;
 ghost use mathlib.Core.Bool.{true};
 ghost use mathlib.Core.Path.{_≡_};
 ghost use mathlib.Core.List.{_++_};
-ghost use Prim.Native.Nat.{_+_, _*_, _≤_, _<_};
+ghost use Prim.Native.Nat.{_+_, _-_, _*_, _≤_, _<_};
 ghost use lib.ListN.{length, take, drop};
 ghost use lib.Seq.{paste};
 ghost use Rattle.semantics.specs.Evaluate.{endsSound};
 ghost use Rattle.semantics.specs.Evaluation.{oracle};
-ghost use Rattle.operations.specs.Elements.{popped, taken};
+ghost use Rattle.operations.specs.Elements.{fewer, popped, taken};
 ghost use Rattle.operations.specs.Oracle.{Asks, Gives, afterPrice, afterSignature, afterTime, checkOf, keyAt, priced, timeAt};
+
+// The elements of the witness that are left: lent, and popped in place.
+pub struct Witness {
+    pub left: usize,
+}
 
 // Where an element that was popped starts and ends, if there was one.
 pub enum Element {
@@ -65,28 +70,49 @@ pub fn ends_sound(ends: &[u32], size: usize) -> bool
 
 // ---- popping
 
-// The top one of so many elements: every pop is this one.
-fn pop(ends: &[u32], left: usize) -> Popped
+// One less; 0 stays 0.
+fn lowered(n: usize) -> usize
+    ensures { λ r. ⌜ r ≡ n - 1 ⌝ }
+{
+    if n == 0 { 0 } else { n - 1 }
+}
+
+// The last of n elements.
+fn last_of(ends: &[u32], n: usize) -> Element
+    requires { ⌜ n ≤ length (now ends) ⌝ }
+    ensures { λ r. ⌜ r ≡ popped (now (ends .entry)) n .element ⌝ }
+{
+    if n == 0 {
+        return Element::Missing;
+    }
+    let k = n - 1;
+    let end = ends[k] as usize;
+    if k == 0 {
+        return Element::Span(0, end);
+    }
+    Element::Span(ends[k - 1] as usize, end)
+}
+
+// The top element; the lent count of those that are left falls. Every pop is this one.
+fn pop(w: &mut Witness, ends: &[u32]) -> Element
+    requires { ⌜ now w .left ≤ length (now ends) ⌝ }
+    ensures { λ r. ⌜ (r ≡ popped (now (ends .entry)) (now (w .entry) .left) .element) × (now (w .exit) ≡ fewer (now (w .entry))) ⌝ }
+{
+    let n = w.left;
+    w.left = lowered(n);
+    last_of(ends, n)
+}
+
+// The same for a count that is passed by value.
+fn pop_at(ends: &[u32], left: usize) -> Popped
     requires { ⌜ left ≤ length (now ends) ⌝ }
     ensures { λ r. ⌜ r ≡ popped (now (ends .entry)) left ⌝ }
 {
-    if left == 0 {
-        return Popped {
-            element: Element::Missing,
-            left,
-        };
-    }
-    let k = left - 1;
-    let end = ends[k] as usize;
-    if k == 0 {
-        return Popped {
-            element: Element::Span(0, end),
-            left: k,
-        };
-    }
+    let mut w = Witness { left };
+    let element = pop(&mut w, ends);
     Popped {
-        element: Element::Span(ends[k - 1] as usize, end),
-        left: k,
+        element,
+        left: w.left,
     }
 }
 
@@ -95,7 +121,7 @@ fn take(ends: &[u32], left: usize, width: usize, absent: Refusal, wrong: Refusal
     requires { ⌜ (left ≤ length (now ends)) × (width ≤ 64) ⌝ }
     ensures { λ r. ⌜ r ≡ taken width absent wrong (popped (now (ends .entry)) left) ⌝ }
 {
-    let p = pop(ends, left);
+    let p = pop_at(ends, left);
     let element = p.element;
     match element {
         Element::Missing => Taken {
