@@ -65,12 +65,9 @@ use Rattle.operations.proofs.witness.pop_at.Code as code
 abbrev stayed : Stays (f.ended .signature .params) (f.ended .kept)
 stayed = (stay-none-slice (0 ∷ []) tt (plain (λ _. u32)) yes, (stay-none (λ _. usize) yes, tt))
 
--- the machine values of a struct, of an element and of the result
+-- the machine values of a struct and of the result
 abbrev w-val : Witness → Val
 w-val = LL.val T.the-type T′.the-laws
-
-abbrev e-val : Element → Val
-e-val = EL.val E.the-type E′.the-laws
 
 abbrev d-val : Popped → Val
 d-val = LL.val D.the-type D′.the-laws
