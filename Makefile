@@ -1,5 +1,6 @@
 # make run proves what the worked examples need and prints them; make test is the whole gate.
-.PHONY: run test toolchain listed
+# make compare and make bench ask the published Rust too; RUST_SOURCE names the folder of its source.
+.PHONY: run test compare bench vectors toolchain listed archive
 
 run: toolchain
 	@log=$$(mktemp) && { rt check examples >"$$log" 2>&1 || { cat "$$log"; rm -f "$$log"; exit 1; }; rm -f "$$log"; }
@@ -8,7 +9,26 @@ run: toolchain
 # rt ci comes last, so that the last line is its 'N passed, M failed'.
 test: toolchain listed
 	rt fmt --check
+	$(MAKE) --no-print-directory archive
+	tests/boundary/run.sh
 	rt ci
+
+# target/staticlib/libcovenant.a, for the programs that link it
+archive: toolchain
+	@log=$$(mktemp) && { rt staticlib covenant >"$$log" 2>&1 || { cat "$$log"; rm -f "$$log"; exit 1; }; rm -f "$$log"; }
+
+# a million generated cases, both sides in one process
+compare: archive
+	tests/compare/build.sh "$(CURDIR)/target/compare"
+	target/compare/compare 1 1000000
+
+# writes docs/MEMORY.md and docs/SPEED.md
+bench: archive
+	bench/run.py
+
+# the cases that crates/vectors replays
+vectors:
+	tests/vectors/generate.py crates/vectors/data/cases
 
 toolchain:
 	@command -v rt >/dev/null 2>&1 || { echo "rt is not on the PATH: install the Rattle kit (rattle-kit-5), which has rt, the prover and LLVM" >&2; exit 2; }

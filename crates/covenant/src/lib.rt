@@ -1,13 +1,19 @@
 // The unit's boundary: the calls as C sees them (include/covenant.h), thin over the crates that make them.
 pub mod answers;
+pub mod token_records;
 
 use answers::CheckAnswer;
+use answers::DecodeAnswer;
 use answers::EvaluateAnswer;
+use answers::WriteAnswer;
 ghost use mathlib.Core.Path.{_≡_};
 ghost use Rattle.semantics.specs.Check.{checked};
+ghost use Rattle.semantics.specs.Decode.{decoded};
 ghost use Rattle.semantics.specs.Evaluate.{evaluated};
+ghost use Rattle.semantics.specs.Write.{Writes, writing, written};
 ghost use Rattle.operations.specs.Lists.{envOf};
-ghost use Rattle.covenant.specs.Answers.{checkAnswer, evaluateAnswer};
+ghost use Rattle.semantics.specs.Records.{recordsOf};
+ghost use Rattle.covenant.specs.Answers.{checkAnswer, decodeAnswer, evaluateAnswer, writeAnswer};
 
 #[no_mangle]
 pub extern "C" fn covenant_check(code: &[u8]) -> CheckAnswer
@@ -52,4 +58,32 @@ pub extern "C" fn covenant_evaluate(
     );
     let verdict = answer.verdict;
     answers::verdict_answer(verdict, answer.checks as u64, answer.left as u64)
+}
+
+#[no_mangle]
+pub extern "C" fn covenant_write(
+    code: &[u8],
+    kinds: &mut [u8],
+    numbers: &mut [u64],
+    places: &mut [u32],
+    keys: &mut [u8],
+) -> WriteAnswer
+    ensures { λ r. ⌜ r ≡ writeAnswer (written (writing (now (code .entry)) (recordsOf (now (kinds .entry)) (now (numbers .entry)) (now (places .entry)) (now (keys .entry))))) ⌝ }
+    ensures { λ _. ⌜ Writes (writing (now (code .entry)) (recordsOf (now (kinds .entry)) (now (numbers .entry)) (now (places .entry)) (now (keys .entry)))) (recordsOf (now (kinds .entry)) (now (numbers .entry)) (now (places .entry)) (now (keys .entry))) (recordsOf (now (kinds .exit)) (now (numbers .exit)) (now (places .exit)) (now (keys .exit))) ⌝ }
+{
+    answers::write_answer(writer::write(code, kinds, numbers, places, keys))
+}
+
+#[no_mangle]
+pub extern "C" fn covenant_decode(
+    kinds: &[u8],
+    numbers: &[u64],
+    places: &[u32],
+    keys: &[u8],
+    code: &mut [u8],
+) -> DecodeAnswer
+    ensures { λ r. ⌜ r ≡ decodeAnswer (decoded (recordsOf (now (kinds .entry)) (now (numbers .entry)) (now (places .entry)) (now (keys .entry))) (now (code .entry)) .answer) ⌝ }
+    ensures { λ r. ⌜ now (code .exit) ≡ decoded (recordsOf (now (kinds .entry)) (now (numbers .entry)) (now (places .entry)) (now (keys .entry))) (now (code .entry)) .buffer ⌝ }
+{
+    answers::decode_answer(decoder::decode(kinds, numbers, places, keys, code))
 }

@@ -1,9 +1,11 @@
 // What a call answers, in words.
 use libc::STDOUT_FILENO;
 use semantics::Checked;
+use semantics::Decoded;
 use semantics::Evaluated;
 use semantics::Refusal;
 use semantics::Verdict;
+use semantics::Written;
 
 pub fn text(bytes: &[u8]) {
     io::write_all(STDOUT_FILENO, bytes);
@@ -72,5 +74,100 @@ pub fn evaluated(answer: Evaluated) {
     match verdict {
         Verdict::Is(holds) => truth(holds),
         Verdict::Refused(r) => refused(r),
+    }
+}
+
+// The source's name of a kind of token.
+fn kind_name(kind: u8) {
+    match kind {
+        0 => text(b"Other"),
+        1 => text(b"Num"),
+        2 => text(b"Bytes8"),
+        3 => text(b"Bytes32"),
+        4 => text(b"CurrInp"),
+        5 => text(b"Add"),
+        6 => text(b"Sub"),
+        7 => text(b"ScriptNumToLe64"),
+        8 => text(b"Le64ToScriptNum"),
+        9 => text(b"Mul64"),
+        10 => text(b"Div64"),
+        11 => text(b"Add64"),
+        12 => text(b"Sub64"),
+        13 => text(b"Neg64"),
+        14 => text(b"Equal"),
+        15 => text(b"Verify"),
+        16 => text(b"Nip"),
+        17 => text(b"Drop"),
+        18 => text(b"And"),
+        19 => text(b"Or"),
+        20 => text(b"Xor"),
+        21 => text(b"Invert"),
+        22 => text(b"InpValue"),
+        23 => text(b"OutValue"),
+        24 => text(b"InpIssue"),
+        25 => text(b"Dup2"),
+        26 => text(b"ToAltStack"),
+        27 => text(b"FromAltStack"),
+        28 => text(b"Geq64"),
+        29 => text(b"Ge64"),
+        30 => text(b"Leq64"),
+        31 => text(b"Le64"),
+        32 => text(b"Cat"),
+        33 => text(b"Sha256"),
+        34 => text(b"CheckSigFromStackVerify"),
+        35 => text(b"Swap"),
+        _ => text(b"unsound"),
+    }
+}
+
+// A token, after a comma where it is not the first.
+fn token(i: usize, kind: u8, carried: u64) {
+    if i != 0 {
+        text(b",");
+    }
+    text(b" ");
+    kind_name(kind);
+    if kind == 1 || kind == 2 {
+        text(b" ");
+        number(carried);
+    }
+}
+
+fn tokens(kinds: &[u8], numbers: &[u64], records: usize) {
+    let mut i = 0;
+    while i < records {
+        if i < kinds.len() {
+            if i < numbers.len() {
+                token(i, kinds[i], numbers[i]);
+            }
+        }
+        i += 1;
+    }
+}
+
+pub fn written(answer: Written, kinds: &[u8], numbers: &[u64]) {
+    match answer {
+        Written::Records { records, key_bytes } => {
+            text(b"0,");
+            tokens(kinds, numbers, records);
+            text(b"\n");
+        }
+        Written::Refused(r) => refused(r),
+    }
+}
+
+// The first command of a condition is on its left side.
+pub fn decoded(answer: Decoded, first: u8) {
+    match answer {
+        Decoded::Code { bytes, start } => {
+            text(b"0, position ");
+            number(start as u64);
+            text(b", code of ");
+            number(bytes as u64);
+            text(b" bytes that begins with ");
+            number(first as u64);
+            text(b"\n");
+        }
+        Decoded::Refused(r) => refused(r),
     }
 }

@@ -8,6 +8,7 @@ use borrow.Author.Tests.{eqb-true, le-leb, leb-true}
 use lib.Dec.{eqb, leb}
 use lib.ListN.{length, getD, take, drop, length-reverse}
 use lib.Seq.{slice, length-slice, length-take-le}
+use Rattle.num64.proofs.Bytes.{drop-take}
 use Rattle.semantics.specs.declared.Refusal.{Refusal}
 use Rattle.semantics.specs.Evaluate.{elements, endsSound}
 use Rattle.semantics.specs.Evaluation.{Outcome, err, ok, pop}
@@ -29,15 +30,6 @@ popped-some ends (suc k) h = let e : suc k - 1 ≡ k = omega arith in rw e
 pub popped-parts : (ends : List ℕ) (n : ℕ) → record { element = popped ends n .element; left = n - 1 } ≡ popped ends n
 popped-parts ends zero = refl
 popped-parts ends (suc k) = let e : suc k - 1 ≡ k = omega arith in rw e
-
-pub drop-take : (p k : ℕ) (l : List ℕ) → drop p (take (p + k) l) ≡ take k (drop p l)
-drop-take zero k l = let e : zero + k ≡ k = omega arith in rw e
-drop-take (suc p) k [] = let e : suc p + k ≡ suc (p + k) = omega arith in rw e (none k)
-  where
-    none : (k : ℕ) → _≡_ {A = List ℕ} [] (take k [])
-    none zero = refl
-    none (suc k) = refl
-drop-take (suc p) k (x ∷ xs) = let e : suc p + k ≡ suc (p + k) = omega arith in rw e (drop-take p k xs)
 
 -- where element k starts, if the first starts at s
 abbrev startFrom : ℕ → List ℕ → ℕ → ℕ

@@ -10,6 +10,7 @@ use lib.IntN.{ℤ, pos}
 use lib.ListN.{length, take, drop, length-append, length-take, length-drop, take-append-drop}
 use lib.Seq.{drop-at, drop-drop, length-paste-head, length-take-le, paste, take-at}
 use Rattle.num64.specs.Bytes.{Read64, bytesValue}
+use Rattle.num64.proofs.Bytes.{drop-take}
 use Rattle.semantics.specs.declared.Refusal.{Refusal}
 use Rattle.semantics.specs.declared.Value.{Value}
 use Rattle.semantics.specs.Evaluate.{endsSound}
@@ -18,7 +19,7 @@ use Rattle.operations.specs.declared.witness.Answered.{Answered}
 use Rattle.operations.specs.declared.witness.Place.{Place}
 use Rattle.operations.specs.Elements.{popped, taken}
 use Rattle.operations.specs.Oracle.{Asks, Gives, afterSignature, checkOf, keyAt, priced, timeAt}
-use Rattle.operations.proofs.Elements.{drop-take, pop-taken, taken-fewer}
+use Rattle.operations.proofs.Elements.{pop-taken, taken-fewer}
 
 -- a pop, and then what is left to do with the element, if there is one
 module _ (w ends old : List ℕ) (left checks width : ℕ) (absent wrong : Refusal) (k : List ℕ → State → Outcome ℤ)

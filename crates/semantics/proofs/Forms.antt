@@ -74,7 +74,7 @@ cmp-own o =
     ]
 
 -- the keys
-keys-append : (xs ys : List Token) → keysOf (xs ++ ys) ≡ keysOf xs ++ keysOf ys
+pub keys-append : (xs ys : List Token) → keysOf (xs ++ ys) ≡ keysOf xs ++ keysOf ys
 unfolding keysOf
 keys-append [] ys = refl
 keys-append (x ∷ xs) ys = rw (keys-append xs ys) (simp append-assoc)
@@ -108,7 +108,7 @@ form-keys (Arith.Compare o x y) w =
     simp (keys-append, cmp-own o .keys, append-nil, length-append, oracles-append) (omega (arith, expr-keys x (w .0), expr-keys y (w .1)))
 
 -- the tokens
-narrow-append : (xs ys : List Token) → narrow (xs ++ ys) ≡ (narrow xs && narrow ys)
+pub narrow-append : (xs ys : List Token) → narrow (xs ++ ys) ≡ (narrow xs && narrow ys)
 narrow-append [] ys = refl
 narrow-append (x ∷ xs) ys =
     rw (narrow-append xs ys) (sym (and-assoc (not (eqb (x .kind) 1) || ltb (x .number) (2 ^ 32)) (narrow xs) (narrow ys)))

@@ -15,6 +15,7 @@ pub mod Placing
 pub mod Forms
 pub mod Records
 pub mod Meaning
+pub mod RoundTrip
 pub mod Run
 pub mod Examples
 pub mod Readings

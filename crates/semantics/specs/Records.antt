@@ -13,6 +13,10 @@ pub record Records : Type 0 where
   pub places : List ℕ
   pub keys : List ℕ
 
+-- as lent slices
+abbrev pub recordsOf : List ℕ → List ℕ → List ℕ → List ℕ → Records
+recordsOf kinds numbers places keys = record { kinds = kinds; numbers = numbers; places = places; keys = keys }
+
 -- the 32 key bytes at a record's place
 abbrev pub keyOf : Records → ℕ → List ℕ
 keyOf r i = take 32 (drop (getD (r .places) i 0) (r .keys))

@@ -1,0 +1,48 @@
+#!/usr/bin/env python3
+"""shapes.py: prints the conditions that are measured, a line each: shape, tokens, code in hex. Left-deep chains of add, and, index steps and oracles, and the deepest
+nestings: Invert, And and index Add nested to the right, index Add nested to the left."""
+import os
+import sys
+
+sys.path.insert(0, os.path.join(os.path.dirname(os.path.abspath(__file__)), "..", "tests", "vectors"))
+from model import code_of, form
+
+ONE = (16, 1)
+KEY = bytes([7] * 32)
+
+
+def chain(first, step, n):
+    t = first
+    for i in range(n):
+        t = step(t, i)
+    return t
+
+
+STEPS = [3, 4, 3, 5, 6, 4]  # add 1, sub 1, add 1, mul 1, div 1, sub 1
+SHAPES = {
+    "add": lambda n: chain(ONE, lambda t, i: (22, t, ONE), n),
+    "and": lambda n: chain(ONE, lambda t, i: (27, t, ONE), n),
+    "index": lambda n: (18, chain((1, 0), lambda t, i: (STEPS[i % 6], t, (1, 1)), n)),
+    "oracle": lambda n: chain((32, KEY, 9), lambda t, i: (27, t, (33, KEY, 9)), n),
+    "invert": lambda n: chain(ONE, lambda t, i: (30, t), n),
+    "and right": lambda n: chain(ONE, lambda t, i: (27, ONE, t), n),
+    "index right": lambda n: (18, chain((1, 0), lambda t, i: (3, (1, 0), t), n)),
+    "index left": lambda n: (18, chain((1, 0), lambda t, i: (3, t, (1, 0)), n)),
+}
+
+
+def longest(shape, most):
+    """The longest chain of at most so many tokens, with `Eq` and a constant after it."""
+    whole = lambda n: (48, SHAPES[shape](n), ONE)
+    n = 0
+    while len(form(whole(n + 1))) <= most:
+        n += 1
+    return whole(n)
+
+
+if __name__ == "__main__":
+    sys.setrecursionlimit(10000)
+    for shape in SHAPES:
+        for most in (12, 100, 256, 512, 1024):
+            t = longest(shape, most)
+            print(shape.replace(" ", "_"), len(form(t)), code_of(t).hex())

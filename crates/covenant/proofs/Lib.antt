@@ -1,0 +1,3 @@
+-- Laws of what the specs of this crate define, one file a subject.
+pub mod Arrays
+pub mod Loaded

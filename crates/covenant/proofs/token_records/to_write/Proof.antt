@@ -1,0 +1,12 @@
+-- The test says which is less (`writable-most`, `writable-all`).
+use native.Mathlib.Omega.{arith}
+use Rattle.covenant.proofs.Loaded.{writable-all, writable-most}
+use Rattle.covenant.proofs.token_records.to_write.Statement.{statement}
+use Rattle.covenant.proofs.token_records.to_write.Tie as tie
+
+pub to-write-spec : {M : Type 1} → statement M
+to-write-spec =
+    tie.close
+    (tie.spec
+    (λ c. writable-most (c .before .args .count) (omega arith))
+    (λ c. writable-all (c .before .args .count) (omega arith)))

@@ -1,0 +1,49 @@
+-- Write and Decode over token records as structs: what is promised is said of the list of records.
+use Prim.Native.Nat.{ℕ, _≤_}
+use mathlib.Core.Bool.{cond}
+use mathlib.Core.Path.{_≡_}
+use mathlib.Core.List.{List, _++_}
+use lib.ListN.{length, take, drop}
+use lib.Dec.{leb}
+use Rattle.semantics.specs.Code.{maxTokens}
+use Rattle.semantics.specs.Decode.{decoded}
+use Rattle.semantics.specs.Meaning.{CallUnambiguous}
+use Rattle.semantics.specs.Write.{Writes, writing, written}
+use Rattle.records.specs.declared.TokenRecord.{TokenRecord}
+use Rattle.records.specs.Fields.{kindsOf, numbersOf, placesOf, recordsFrom, recordsOf}
+use Rattle.covenant.specs.Answers.{decodeAnswer, writeAnswer}
+use Rattle.covenant.specs.declared.answers.DecodeAnswer.{DecodeAnswer}
+use Rattle.covenant.specs.declared.answers.WriteAnswer.{WriteAnswer}
+
+-- what Decode gives back for these records, and the code buffer then; and demand 3, of this call's own answer
+pub record DecodesRecords (rs : List TokenRecord) (keys old new : List ℕ) (r : DecodeAnswer) : Type 0 where
+  pub answer : r ≡ decodeAnswer (decoded (recordsOf rs keys) old .answer)
+  pub buffer : new ≡ decoded (recordsOf rs keys) old .buffer
+  pub unambiguous : CallUnambiguous (recordsOf rs keys) old (decoded (recordsOf rs keys) old .answer) new
+
+-- what Write gives back for these records, and what records and keys are then; the records beyond those reported are kept
+pub record WritesRecords (code : List ℕ) (old new : List TokenRecord) (oldKeys newKeys : List ℕ) (r : WriteAnswer) : Type 0 where
+  pub answer : r ≡ writeAnswer (written (writing code (recordsOf old oldKeys)))
+  pub writes : Writes (writing code (recordsOf old oldKeys)) (recordsOf old oldKeys) (recordsOf new newKeys)
+  pub kept : drop (r .records) new ≡ drop (r .records) old
+
+-- how many records are loaded: all, or none where there are more than Decode takes
+abbrev pub loadable : ℕ → ℕ
+loadable count = cond (leb count maxTokens) count 0
+
+-- of so many records those that Write has tokens for
+abbrev pub writable : ℕ → ℕ
+writable count = cond (leb count maxTokens) count maxTokens
+
+-- the fields of the loaded records stand at the front of these lists
+pub record Loaded (rs : List TokenRecord) (kinds numbers places : List ℕ) : Type 0 where
+  pub kindsLoaded : take (loadable (length rs)) kinds ≡ take (loadable (length rs)) (kindsOf rs)
+  pub numbersLoaded : take (loadable (length rs)) numbers ≡ take (loadable (length rs)) (numbersOf rs)
+  pub placesLoaded : take (loadable (length rs)) places ≡ take (loadable (length rs)) (placesOf rs)
+
+-- whatever so many records were, to store the fields that were written is to write the records
+pub record WritesFields (code : List ℕ) (count : ℕ) (kinds numbers places oldKeys newKeys : List ℕ) (r : WriteAnswer) : Type 0 where
+  pub few : r .records ≤ count
+  pub fit : r .records ≤ maxTokens
+  pub stored : (rs : List TokenRecord) → length rs ≡ count
+      → WritesRecords code rs (take (r .records) (recordsFrom kinds numbers places) ++ drop (r .records) rs) oldKeys newKeys r

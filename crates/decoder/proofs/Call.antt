@@ -1,0 +1,141 @@
+-- The call: 10, 9, 7 in this order, then what the tokens are read as; and that it is unambiguous.
+use Prim.Native.Nat.{ℕ, _+_, _-_, _^_, _≤_, _<_}
+use mathlib.Core.Bool.{Bool, true, false, cond}
+use mathlib.Core.Option.{Option, none, some}
+use mathlib.Core.Path.{_≡_, refl, sym, ap, ap₂, subst, _∙_}
+use mathlib.Core.List.{List, _++_, reverse}
+use native.Mathlib.Omega.{arith}
+use borrow.Author.Tests.{le-leb, lt-leb}
+use lib.ListN.{length, length-append, length-reverse}
+use Rattle.num64.specs.Bytes.{All, Bytes}
+use Rattle.semantics.specs.Operations.{Token}
+use Rattle.semantics.specs.declared.Decoded.{Decoded}
+use Rattle.semantics.specs.declared.Refusal.{Refusal}
+use Rattle.semantics.specs.Trees.{Arith}
+use Rattle.semantics.specs.Code.{code, maxCode, maxTokens}
+use Rattle.semantics.specs.Token.{form}
+use Rattle.semantics.specs.Oracle.{oracleRule}
+use Rattle.semantics.specs.FromTokens.{Found, found, fromTokens, nothing}
+use Rattle.semantics.specs.Evaluate.{over}
+use Rattle.semantics.specs.Records.{Records, tokenAt, tokens, unsound}
+use Rattle.semantics.specs.Decode.{Decoding, Reading, decode, decoded, decodedAs, reading, unlessRuled}
+use Rattle.semantics.specs.Meaning.{CallUnambiguous}
+use Rattle.semantics.proofs.Canon.{canon}
+use Rattle.semantics.proofs.Find.{reader-picked, reader-sound}
+use Rattle.semantics.proofs.FromTokens.{arith-reader}
+use Rattle.semantics.proofs.Meaning.{call-decodes, call-unambiguous, decoded-fits}
+use Rattle.semantics.proofs.Records.{length-tokens, tokens-sound}
+use Rattle.decoder.specs.Before.{before}
+use Rattle.decoder.specs.Told.{Ready, told}
+use Rattle.decoder.specs.Pieces.{joined, judged, keeps, pieces}
+use Rattle.decoder.specs.declared.emission.Judged.{Judged}
+use Rattle.decoder.specs.declared.readers.Reading as R
+use Rattle.decoder.proofs.Tokens.{length-before, reverse-tokens}
+use Rattle.decoder.proofs.Trees.{arith-joined, arithPieces, form-pieces}
+use Rattle.decoder.proofs.Rules.{keeps-rule, kept}
+
+-- the pieces of the tokens from `start` on
+abbrev pub allPieces : Records → ℕ → List (List ℕ)
+allPieces r start = pieces (length (r .kinds) - start) (before (tokenAt r) (length (r .kinds)))
+
+decode-is : (r : Records) → decode (tokens r) ≡ reading (fromTokens (before (tokenAt r) (length (r .kinds))))
+unfolding decode
+decode-is r = ap (λ (ts : List Token). reading (fromTokens ts)) (reverse-tokens r)
+
+-- 11: nothing is read
+pub read-none : (r : Records) → R.Reading.Nothing ≡ told (fromTokens (before (tokenAt r) (length (r .kinds)))) → decode (tokens r) ≡ Reading.refused Refusal.NoCondition
+read-none r e = decode-is r ∙ go (fromTokens (before (tokenAt r) (length (r .kinds)))) e
+  where
+    go : (g : Found Arith) → R.Reading.Nothing ≡ told g → reading g ≡ Reading.refused Refusal.NoCondition
+    go (found a s) q = let z : _≡_ {A = ℕ} 0 1 = cc in absurd (omega arith)
+    go nothing q = refl
+
+-- what is read is judged by its pieces
+ruled : (o : Option Refusal) (a : Arith) (start : ℕ) → unlessRuled o a start ≡ cond (kept o) (Reading.accepted (code a) start) (Reading.refused Refusal.NoCondition)
+ruled none a start = refl
+ruled (some x) a start = refl
+
+pub read-judged : (r : Records) (start : ℕ) → R.Reading.Read start ≡ told (fromTokens (before (tokenAt r) (length (r .kinds))))
+    → decode (tokens r) ≡ cond (keeps (allPieces r start)) (Reading.accepted (joined (allPieces r start)) start) (Reading.refused Refusal.NoCondition)
+read-judged r start e = decode-is r ∙ go (fromTokens (before (tokenAt r) (length (r .kinds)))) refl e
+  where
+    go : (g : Found Arith) → fromTokens (before (tokenAt r) (length (r .kinds))) ≡ g → R.Reading.Read start ≡ told g
+        → reading g ≡ cond (keeps (allPieces r start)) (Reading.accepted (joined (allPieces r start)) start) (Reading.refused Refusal.NoCondition)
+    go (found a s) p q =
+        let size : length s ≡ start = cc in
+        let split : before (tokenAt r) (length (r .kinds)) ≡ reverse (form a) ++ s = reader-sound arith-reader (before (tokenAt r) (length (r .kinds))) p in
+        let same : canon a ≡ a = reader-picked arith-reader (before (tokenAt r) (length (r .kinds))) p in
+        let many : length (r .kinds) ≡ length (form a) + length s =
+        sym (length-before (tokenAt r) (length (r .kinds))) ∙ ap length split ∙ length-append (reverse (form a)) s ∙ ap (λ (n : ℕ). n + length s) (length-reverse (form a)) in
+        let count : length (r .kinds) - start ≡ length (form a) = omega arith in
+        let is : allPieces r start ≡ arithPieces a = ap₂ (λ (n : ℕ) (l : List Token). pieces n l) count split ∙ form-pieces a same s in
+        ruled (oracleRule a) a (length s)
+        ∙ rw (is, keeps-rule a, arith-joined a, size)
+    go nothing p q = let z : _≡_ {A = ℕ} 0 1 = cc in absurd (omega arith)
+
+-- a record's tokens that are read, as the code finds them: the rule is broken, or it is kept
+module _ (r : Records) (old : List ℕ) (ready : Ready r old) (bytes : Bytes (r .keys)) (wide : All (λ n. n < 2 ^ 64) (r .numbers)) where
+  pub turned-down : decode (tokens r) ≡ Reading.refused Refusal.NoCondition
+      → _≡_ {A = Decoding} (record { answer = Decoded.Refused Refusal.NoCondition; buffer = old }) (decodedAs old (decode (tokens r)))
+  turned-down e = rw e
+
+  module _ (start : ℕ) (read : R.Reading.Read start ≡ told (fromTokens (before (tokenAt r) (length (r .kinds))))) where
+    pub rule-broken : Judged.Broken ≡ judged (allPieces r start) → decode (tokens r) ≡ Reading.refused Refusal.NoCondition
+    unfolding judged
+    rule-broken e = read-judged r start read ∙ go (keeps (allPieces r start)) e
+      where
+        go : (b : Bool) → Judged.Broken ≡ cond b (Judged.Kept (length (joined (allPieces r start)))) Judged.Broken
+            → cond b (Reading.accepted (joined (allPieces r start)) start) (Reading.refused Refusal.NoCondition) ≡ Reading.refused Refusal.NoCondition
+        go true q = let z : _≡_ {A = ℕ} 0 1 = cc in absurd (omega arith)
+        go false q = refl
+
+    module _ (size : ℕ) (kept-is : Judged.Kept size ≡ judged (allPieces r start)) where
+      kept-size : (keeps (allPieces r start) ≡ true) × (size ≡ length (joined (allPieces r start)))
+      unfolding judged
+      kept-size = go (keeps (allPieces r start)) refl kept-is
+        where
+          go : (b : Bool) → keeps (allPieces r start) ≡ b → Judged.Kept size ≡ cond b (Judged.Kept (length (joined (allPieces r start)))) Judged.Broken
+              → (keeps (allPieces r start) ≡ true) × (size ≡ length (joined (allPieces r start)))
+          go true p q = (p, cc)
+          go false p q = let z : _≡_ {A = ℕ} 0 1 = cc in absurd (omega arith)
+
+      accepted : decode (tokens r) ≡ Reading.accepted (joined (allPieces r start)) start
+      accepted =
+          read-judged r start read
+          ∙ ap (λ (b : Bool). cond b (Reading.accepted (joined (allPieces r start)) start) (Reading.refused Refusal.NoCondition)) (kept-size .0)
+
+      -- the code fits the buffer, and is written there
+      pub code-room : (size ≤ length old) × (size ≡ length (joined (allPieces r start)))
+      code-room =
+          let fits = decoded-fits (tokens r) (rw length-tokens (ready .few)) (tokens-sound r bytes wide (ready .sound)) (joined (allPieces r start)) start accepted in
+          (omega (arith, fits, kept-size .1, ready .full), kept-size .1)
+
+      pub code-accepted : (after : List ℕ) → after ≡ over (joined (allPieces r start)) old
+          → _≡_ {A = Decoding} (record { answer = Decoded.Code size start; buffer = after }) (decodedAs old (decode (tokens r)))
+      code-accepted after e = rw (accepted, e, ← kept-size .1)
+
+-- 10, 9, 7, and then
+module _ (r : Records) (old : List ℕ) (bytes : Bytes (r .keys)) (wide : All (λ n. n < 2 ^ 64) (r .numbers)) where
+  abbrev pub Owed : Decoded → List ℕ → Type 0
+  Owed d after = (_≡_ {A = Decoding} (record { answer = d; buffer = after }) (decoded r old)) × CallUnambiguous r old d after
+
+  owed : (d : Decoded) (after : List ℕ) → _≡_ {A = Decoding} (record { answer = d; buffer = after }) (decoded r old) → Owed d after
+  owed d after e = (e, subst (λ (x : Decoding). CallUnambiguous r old (x .answer) (x .buffer)) (sym e) (call-unambiguous r old bytes wide))
+
+  pub owed-10 : maxTokens < length (r .kinds) → Owed (Decoded.Refused Refusal.TooManyRecords) old
+  unfolding decoded
+  owed-10 many = owed (Decoded.Refused Refusal.TooManyRecords) old (rw (lt-leb (length (r .kinds)) maxTokens many))
+
+  module _ (few : length (r .kinds) ≤ maxTokens) where
+    pub owed-9 : (i : ℕ) → unsound r ≡ some i → Owed (Decoded.Refused (Refusal.TokenUnsound i)) old
+    unfolding decoded
+    owed-9 i one = owed (Decoded.Refused (Refusal.TokenUnsound i)) old (rw (le-leb (length (r .kinds)) maxTokens few, one))
+
+    pub owed-7 : unsound r ≡ none → length old < maxCode → Owed (Decoded.Refused Refusal.BufferTooShort) old
+    unfolding decoded
+    owed-7 all less =
+        owed (Decoded.Refused Refusal.BufferTooShort) old (rw (le-leb (length (r .kinds)) maxTokens few, all, lt-leb maxCode (length old) less))
+
+    pub owed-read : unsound r ≡ none → maxCode ≤ length old → (d : Decoded) (after : List ℕ)
+        → _≡_ {A = Decoding} (record { answer = d; buffer = after }) (decodedAs old (decode (tokens r))) → Owed d after
+    owed-read all full d after e = owed d after (e ∙ sym (call-decodes r old few all full))

@@ -1,0 +1,30 @@
+-- The rows stand in runs of one shape.
+use mathlib.Core.Path.{sym}
+use Rattle.decoder.proofs.Table.{index-terminals, no-indexes, no-more-indexes, plains, scaleds}
+use Rattle.decoder.proofs.productions.index_shape.Statement.{statement}
+use Rattle.decoder.proofs.productions.index_shape.Tie as tie
+
+returns : tie.Need-returns
+returns c ts = sym (no-indexes ts (c .before .args .row) (c .if1 .taken))
+
+returns-2 : tie.Need-returns-2
+returns-2 c ts = sym (index-terminals ts (c .before .before .args .row) (c .before .if1 .left) (c .if2 .taken))
+
+returns-3 : tie.Need-returns-3
+returns-3 c ts = sym (plains ts (c .before .before .before .args .row) (c .before .if2 .left) (c .if3 .taken))
+
+returns-4 : tie.Need-returns-4
+returns-4 c ts = sym (scaleds ts (c .before .before .before .before .args .row) (c .before .if3 .left) (c .if4 .taken))
+
+returns-5 : tie.Need-returns-5
+returns-5 c ts = sym (no-more-indexes ts (c .before .before .before .before .args .row) (c .if4 .left) (c .before .before .before .before .pre))
+
+pub index-shape-spec : {M : Type 1} → statement M
+index-shape-spec =
+    tie.close
+    (tie.spec
+    returns
+    returns-2
+    returns-3
+    returns-4
+    returns-5)

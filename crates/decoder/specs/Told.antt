@@ -1,0 +1,56 @@
+-- What the code's enums say of the definitions' answers.
+use Prim.Native.Nat.{ℕ, _≤_}
+use mathlib.Core.Path.{_≡_}
+use mathlib.Core.Option.{Option, none, some}
+use mathlib.Core.List.{List}
+use lib.ListN.{length}
+use Rattle.semantics.specs.declared.IdxOp.{IdxOp}
+use Rattle.semantics.specs.Operations.{Token}
+use Rattle.semantics.specs.FromTokens.{Found, exprFromTokens, found, idxBetween, idxFromTokens, nothing}
+use Rattle.semantics.specs.Code.{maxCode, maxTokens}
+use Rattle.semantics.specs.Records.{Records, unsound}
+use Rattle.decoder.specs.declared.soundness.Scanned.{Scanned}
+use Rattle.decoder.specs.declared.productions.Ending.{Ending}
+use Rattle.decoder.specs.declared.productions.ValueShape.{ValueShape}
+use Rattle.decoder.specs.declared.productions.IndexShape.{IndexShape}
+use Rattle.decoder.specs.declared.readers.Reading.{Reading}
+
+-- the first unsound record
+abbrev pub scanned : Option ℕ → Scanned
+scanned none = Scanned.Sound
+scanned (some i) = Scanned.Unsound i
+
+-- the row that tokens end with, and how many tokens stand before it
+abbrev pub ended : Found ℕ → Ending
+ended (found k r) = Ending.Row k (length r)
+ended nothing = Ending.Nothing
+
+-- how many tokens stand before what was read
+abbrev pub told : {A : Type 0} → Found A → Reading
+told (found a r) = Reading.Read (length r)
+told nothing = Reading.Nothing
+
+-- a reading goes on before what was read, or ends there and then
+abbrev pub goOn : {A : Type 0} → Found A → (List Token → Reading) → Reading
+goOn (found a r) f = f r
+goOn nothing f = Reading.Nothing
+
+-- by what stands before a production's own tokens
+abbrev pub indexBy : IndexShape → List Token → Reading
+indexBy IndexShape.Terminal r = Reading.Read (length r)
+indexBy IndexShape.Plain r = goOn (idxFromTokens r) λ r₁. told (idxFromTokens r₁)
+indexBy IndexShape.Scaled r = goOn (idxFromTokens r) λ r₁. goOn (idxBetween IdxOp.Mul r₁) λ r₂. told (idxFromTokens r₂)
+indexBy IndexShape.NoIndex r = Reading.Nothing
+
+abbrev pub valueBy : ValueShape → List Token → Reading
+valueBy ValueShape.Terminal r = Reading.Read (length r)
+valueBy ValueShape.Lookup r = told (idxFromTokens r)
+valueBy ValueShape.Unary r = told (exprFromTokens r)
+valueBy ValueShape.Binary r = goOn (exprFromTokens r) λ r₁. told (exprFromTokens r₁)
+valueBy ValueShape.NoValue r = Reading.Nothing
+
+-- what neither 10, 9 nor 7 falls on
+pub record Ready (r : Records) (buffer : List ℕ) : Type 0 where
+  pub few : length (r .kinds) ≤ maxTokens
+  pub sound : unsound r ≡ none
+  pub full : maxCode ≤ length buffer

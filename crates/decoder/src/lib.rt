@@ -1,0 +1,73 @@
+// Decode: the condition code of which the last token records are the token form. The readers find where it begins; then its oracle rule and length are
+// judged, and it is written straight into the lent buffer.
+use crate::emission::Judged;
+use crate::emission::emit;
+use crate::emission::judge;
+use crate::readers::Reading;
+use crate::readers::read_condition;
+use crate::soundness::Scanned;
+use crate::soundness::scan;
+use semantics::Decoded;
+use semantics::MAX_CODE;
+use semantics::MAX_TOKENS;
+use semantics::Refusal;
+ghost use mathlib.Core.Path.{_≡_};
+ghost use Rattle.semantics.specs.Decode.{decode, decoded, decodedAs};
+ghost use Rattle.semantics.specs.Meaning.{CallUnambiguous};
+ghost use Rattle.semantics.specs.Records.{recordsOf, tokens};
+ghost use Rattle.decoder.specs.Told.{Ready};
+
+mod emission;
+mod productions;
+mod readers;
+mod soundness;
+
+// Decodes up to 1,024 sound records into a buffer that is large enough.
+fn decode_sound(
+    kinds: &[u8],
+    numbers: &[u64],
+    places: &[u32],
+    keys: &[u8],
+    code: &mut [u8],
+) -> Decoded
+    requires { ⌜ Ready (recordsOf (now kinds) (now numbers) (now places) (now keys)) (now code) ⌝ }
+    ensures { λ r. ⌜ record { answer = r; buffer = now (code .exit) } ≡ decodedAs (now (code .entry))
+        (decode (tokens (recordsOf (now (kinds .entry)) (now (numbers .entry)) (now (places .entry)) (now (keys .entry))))) ⌝ }
+{
+    let Reading::Read(start) = read_condition(kinds, numbers) else {
+        return Decoded::Refused(Refusal::NoCondition);
+    };
+    let Judged::Kept(bytes) = judge(kinds, numbers, start) else {
+        return Decoded::Refused(Refusal::NoCondition);
+    };
+    emit(kinds, numbers, places, keys, start, code, bytes);
+    Decoded::Code { bytes, start }
+}
+
+// The condition that token records end with: its code goes to the front of `code`, and nothing else is written there.
+pub fn decode(
+    kinds: &[u8],
+    numbers: &[u64],
+    places: &[u32],
+    keys: &[u8],
+    code: &mut [u8],
+) -> Decoded
+    ensures { λ r. ⌜ record { answer = r; buffer = now (code .exit) } ≡ decoded
+        (recordsOf (now (kinds .entry)) (now (numbers .entry)) (now (places .entry)) (now (keys .entry))) (now (code .entry)) ⌝ }
+    ensures { λ r. ⌜ CallUnambiguous
+        (recordsOf (now (kinds .entry)) (now (numbers .entry)) (now (places .entry)) (now (keys .entry)))
+        (now (code .entry)) r (now (code .exit)) ⌝ }
+{
+    if MAX_TOKENS < kinds.len() {
+        return Decoded::Refused(Refusal::TooManyRecords);
+    }
+    match scan(kinds, numbers, places, keys) {
+        Scanned::Unsound(at) => Decoded::Refused(Refusal::TokenUnsound(at)),
+        Scanned::Sound => {
+            if code.len() < MAX_CODE {
+                return Decoded::Refused(Refusal::BufferTooShort);
+            }
+            decode_sound(kinds, numbers, places, keys, code)
+        }
+    }
+}

@@ -1,0 +1,380 @@
+// What the tokens before a place end with: a row of the table, told by the kinds of one or two tokens, and then compared mark by mark.
+ghost use mathlib.Core.Path.{_≡_};
+ghost use mathlib.Core.List.{List, [], _∷_};
+ghost use Prim.Native.Nat.{ℕ, _-_, _≤_, _<_};
+ghost use lib.ListN.{length, getD};
+ghost use Rattle.semantics.specs.Operations.{Token};
+ghost use Rattle.decoder.specs.Before.{Numbered, tokensBefore};
+ghost use Rattle.decoder.specs.Ending.{candidateOf, ends, entry, fits, indexShape, kindAt, production, productionOf, rowAt, rows, rowsBefore, valueShape};
+ghost use Rattle.decoder.specs.Told.{ended};
+
+// The row that the tokens end with, and how many tokens stand before its own ones.
+pub enum Ending {
+    Row { row: usize, start: usize },
+    Nothing,
+}
+
+// What stands before the own tokens of a value: nothing, an index, a value or two values.
+pub enum ValueShape {
+    Terminal,
+    Lookup,
+    Unary,
+    Binary,
+    NoValue,
+}
+
+// And of an index: nothing, two indexes, or two indexes with ScriptNumToLe64 between them.
+pub enum IndexShape {
+    Terminal,
+    Plain,
+    Scaled,
+    NoIndex,
+}
+
+// The rows: values, indexes, what stands between two index operands, comparisons. The last number is no row's.
+pub const INPUT: usize = 1;
+
+const DIV: usize = 10;
+
+const INDEX_DIV: usize = 22;
+
+pub const COMPARISONS: usize = 24;
+
+const ROWS: usize = 29;
+
+// A row's command, the number of its own tokens, and their marks, the last token first. A mark is the token's kind, but 36 stands for a Num of 1.
+fn entry(row: usize) -> [u8; 15]
+    requires { ⌜ row < 29 ⌝ }
+    ensures { λ r. ⌜ r ≡ entry (rowAt row) ⌝ }
+{
+    match row {
+        // Const
+        0 => [16, 1, 2, 0, 0, 0, 0, 0, 0, 0, 0, 0, 0, 0, 0],
+        // Input
+        1 => [18, 4, 15, 14, 36, 22, 0, 0, 0, 0, 0, 0, 0, 0, 0],
+        // Output
+        2 => [19, 4, 15, 14, 36, 23, 0, 0, 0, 0, 0, 0, 0, 0, 0],
+        // InputIssue
+        3 => [20, 8, 16, 16, 15, 14, 36, 17, 17, 24, 0, 0, 0, 0, 0],
+        // InputReIssue
+        4 => [21, 8, 15, 14, 36, 17, 17, 17, 17, 24, 0, 0, 0, 0, 0],
+        // Invert
+        5 => [30, 1, 21, 0, 0, 0, 0, 0, 0, 0, 0, 0, 0, 0, 0],
+        // Negate
+        6 => [31, 4, 15, 14, 36, 13, 0, 0, 0, 0, 0, 0, 0, 0, 0],
+        // Add
+        7 => [22, 4, 15, 14, 36, 11, 0, 0, 0, 0, 0, 0, 0, 0, 0],
+        // Sub
+        8 => [23, 4, 15, 14, 36, 12, 0, 0, 0, 0, 0, 0, 0, 0, 0],
+        // Mul
+        9 => [24, 4, 15, 14, 36, 9, 0, 0, 0, 0, 0, 0, 0, 0, 0],
+        // Div
+        10 => [25, 5, 16, 15, 14, 36, 10, 0, 0, 0, 0, 0, 0, 0, 0],
+        // Mod
+        11 => [26, 5, 17, 15, 14, 36, 10, 0, 0, 0, 0, 0, 0, 0, 0],
+        // BitAnd
+        12 => [27, 1, 18, 0, 0, 0, 0, 0, 0, 0, 0, 0, 0, 0, 0],
+        // BitOr
+        13 => [28, 1, 19, 0, 0, 0, 0, 0, 0, 0, 0, 0, 0, 0, 0],
+        // Xor
+        14 => [29, 1, 20, 0, 0, 0, 0, 0, 0, 0, 0, 0, 0, 0, 0],
+        // PriceOracle1
+        15 => [32, 10, 27, 34, 3, 33, 32, 15, 28, 2, 26, 25, 0, 0, 0],
+        // PriceOracle1W
+        16 => [33, 13, 35, 27, 27, 34, 3, 33, 32, 15, 28, 2, 26, 25, 26],
+        // index constant
+        17 => [1, 1, 1, 0, 0, 0, 0, 0, 0, 0, 0, 0, 0, 0, 0],
+        // current index
+        18 => [2, 1, 4, 0, 0, 0, 0, 0, 0, 0, 0, 0, 0, 0, 0],
+        // index add
+        19 => [3, 1, 5, 0, 0, 0, 0, 0, 0, 0, 0, 0, 0, 0, 0],
+        // index sub
+        20 => [4, 1, 6, 0, 0, 0, 0, 0, 0, 0, 0, 0, 0, 0, 0],
+        // index mul
+        21 => [5, 6, 8, 15, 14, 36, 9, 7, 0, 0, 0, 0, 0, 0, 0],
+        // index div
+        22 => [6, 7, 8, 16, 15, 14, 36, 10, 7, 0, 0, 0, 0, 0, 0],
+        // between the operands of index mul and div
+        23 => [0, 1, 7, 0, 0, 0, 0, 0, 0, 0, 0, 0, 0, 0, 0],
+        // Eq
+        24 => [48, 1, 14, 0, 0, 0, 0, 0, 0, 0, 0, 0, 0, 0, 0],
+        // Lt
+        25 => [49, 1, 31, 0, 0, 0, 0, 0, 0, 0, 0, 0, 0, 0, 0],
+        // Leq
+        26 => [50, 1, 30, 0, 0, 0, 0, 0, 0, 0, 0, 0, 0, 0, 0],
+        // Gt
+        27 => [51, 1, 29, 0, 0, 0, 0, 0, 0, 0, 0, 0, 0, 0, 0],
+        // Geq
+        _ => [52, 1, 28, 0, 0, 0, 0, 0, 0, 0, 0, 0, 0, 0, 0],
+    }
+}
+
+fn wide(x: u8) -> usize
+    ensures { λ r. ⌜ r ≡ x ⌝ }
+{
+    x as usize
+}
+
+pub fn command(row: usize) -> u8
+    requires { ⌜ row < 29 ⌝ }
+    ensures { λ r. ⌜ r ≡ rowAt row .command ⌝ }
+{
+    let e = entry(row);
+    e[0]
+}
+
+fn width(row: usize) -> usize
+    requires { ⌜ row < 29 ⌝ }
+    ensures { λ r. ⌜ r ≡ length (rowAt row .marks) ⌝ }
+{
+    let e = entry(row);
+    wide(e[1])
+}
+
+pub fn value_shape(row: usize) -> ValueShape
+    requires { ⌜ row < 29 ⌝ }
+    ensures { λ r. ⌜ ((ts : List Token) → r ≡ valueShape (productionOf ts row)) ⌝ }
+{
+    if row < 1 {
+        return ValueShape::Terminal;
+    }
+    if row < 5 {
+        return ValueShape::Lookup;
+    }
+    if row < 7 {
+        return ValueShape::Unary;
+    }
+    if row < 15 {
+        return ValueShape::Binary;
+    }
+    if row < 17 {
+        return ValueShape::Terminal;
+    }
+    ValueShape::NoValue
+}
+
+pub fn index_shape(row: usize) -> IndexShape
+    requires { ⌜ row < 29 ⌝ }
+    ensures { λ r. ⌜ ((ts : List Token) → r ≡ indexShape (productionOf ts row)) ⌝ }
+{
+    if row < 17 {
+        return IndexShape::NoIndex;
+    }
+    if row < 19 {
+        return IndexShape::Terminal;
+    }
+    if row < 21 {
+        return IndexShape::Plain;
+    }
+    if row < 23 {
+        return IndexShape::Scaled;
+    }
+    IndexShape::NoIndex
+}
+
+// The first row whose last token has this kind, or the number of rows.
+fn by_last(kind: u8) -> usize
+    requires { ⌜ kind < 36 ⌝ }
+    ensures { λ r. ⌜ r ≡ rowsBefore 0 kind rows ⌝ }
+{
+    match kind {
+        0 => 29,
+        1 => 17,
+        2 => 0,
+        3 => 29,
+        4 => 18,
+        5 => 19,
+        6 => 20,
+        7 => 23,
+        8 => 21,
+        9 => 29,
+        10 => 29,
+        11 => 29,
+        12 => 29,
+        13 => 29,
+        14 => 24,
+        15 => 1,
+        16 => 3,
+        17 => 11,
+        18 => 12,
+        19 => 13,
+        20 => 14,
+        21 => 5,
+        22 => 29,
+        23 => 29,
+        24 => 29,
+        25 => 29,
+        26 => 29,
+        27 => 15,
+        28 => 28,
+        29 => 27,
+        30 => 26,
+        31 => 25,
+        32 => 29,
+        33 => 29,
+        34 => 29,
+        _ => 16,
+    }
+}
+
+// The first row whose fourth last token has this kind, or the number of rows.
+fn by_fourth(kind: u8) -> usize
+    requires { ⌜ kind < 36 ⌝ }
+    ensures { λ r. ⌜ r ≡ rowsBefore 3 kind rows ⌝ }
+{
+    match kind {
+        0 => 29,
+        1 => 29,
+        2 => 29,
+        3 => 29,
+        4 => 29,
+        5 => 29,
+        6 => 29,
+        7 => 29,
+        8 => 29,
+        9 => 9,
+        10 => 29,
+        11 => 7,
+        12 => 8,
+        13 => 6,
+        14 => 3,
+        15 => 29,
+        16 => 29,
+        17 => 4,
+        18 => 29,
+        19 => 29,
+        20 => 29,
+        21 => 29,
+        22 => 1,
+        23 => 2,
+        24 => 29,
+        25 => 29,
+        26 => 29,
+        27 => 29,
+        28 => 29,
+        29 => 29,
+        30 => 29,
+        31 => 29,
+        32 => 29,
+        33 => 15,
+        34 => 16,
+        _ => 29,
+    }
+}
+
+// The kind of the token before `end` that has k tokens behind it there; 0 where there is none.
+pub fn kind_before(kinds: &[u8], end: usize, k: usize) -> u8
+    requires { ⌜ end ≤ length (now kinds) ⌝ }
+    ensures { λ r. ⌜ ((numbers places keys : List ℕ) → r ≡ kindAt (tokensBefore (now (kinds .entry)) numbers places keys end) k) ⌝ }
+{
+    if k < end { kinds[end - 1 - k] } else { 0 }
+}
+
+// The only row that the tokens before `end` can end with, or the number of rows.
+fn candidate(kinds: &[u8], end: usize) -> usize
+    requires { ⌜ ((i : ℕ) → getD (now kinds) i 0 < 36) × (end ≤ length (now kinds)) ⌝ }
+    ensures { λ r. ⌜ ((numbers places keys : List ℕ) → r ≡ candidateOf (tokensBefore (now (kinds .entry)) numbers places keys end)) ⌝ }
+{
+    let last = kind_before(kinds, end, 0);
+    if last == 15 {
+        return by_fourth(kind_before(kinds, end, 3));
+    }
+    if last == 8 {
+        if kind_before(kinds, end, 1) == 16 {
+            return INDEX_DIV;
+        }
+    }
+    if last == 16 {
+        if kind_before(kinds, end, 1) == 15 {
+            return DIV;
+        }
+    }
+    by_last(last)
+}
+
+// Whether a token has a mark of the table.
+fn fits(mark: u8, kind: u8, number: u64) -> bool
+    ensures { λ r. ⌜ r ≡ fits mark kind number ⌝ }
+{
+    if mark == 36 {
+        if kind == 1 {
+            return number == 1;
+        }
+        return false;
+    }
+    kind == mark
+}
+
+// Whether the tokens before `end` end with the marks of a row.
+fn ends(kinds: &[u8], numbers: &[u64], end: usize, row: usize) -> bool
+    requires { ⌜ (length (now kinds) ≤ length (now numbers)) × (end ≤ length (now kinds)) ⌝ }
+    requires { ⌜ row < 29 ⌝ }
+    ensures { λ r. ⌜ ((places keys : List ℕ) →
+        r ≡ ends (rowAt row .marks) (tokensBefore (now (kinds .entry)) (now (numbers .entry)) places keys end)) ⌝ }
+{
+    let e = entry(row);
+    let n = wide(e[1]);
+    let mut last = end;
+    let mut i = 0;
+    while i < n {
+        if last == 0 {
+            return false;
+        }
+        last -= 1;
+        if !fits(e[i + 2], kinds[last], numbers[last]) {
+            return false;
+        }
+        i += 1;
+    }
+    true
+}
+
+// Whether a Num of 1 and Equal stand before the last one of the tokens before `end`.
+fn checked(kinds: &[u8], numbers: &[u64], end: usize) -> bool
+    requires { ⌜ (length (now kinds) ≤ length (now numbers)) × (end ≤ length (now kinds)) ⌝ }
+    ensures { λ r. ⌜ ((places keys : List ℕ) →
+        r ≡ ends (14 ∷ 36 ∷ []) (tokensBefore (now (kinds .entry)) (now (numbers .entry)) places keys (end - 1))) ⌝ }
+{
+    if end < 3 {
+        return false;
+    }
+    if kinds[end - 2] != 14 {
+        return false;
+    }
+    fits(36, kinds[end - 3], numbers[end - 3])
+}
+
+// The row that the tokens before `end` end with. The kind of the last one tells a row of one token; rows of four tokens differ in the first of them alone.
+pub fn production(kinds: &[u8], numbers: &[u64], end: usize) -> Ending
+    requires { ⌜ Numbered (now kinds) (now numbers) end ⌝ }
+    ensures { λ r. ⌜ ((places keys : List ℕ) →
+        r ≡ ended (production (tokensBefore (now (kinds .entry)) (now (numbers .entry)) places keys end))) ⌝ }
+{
+    let row = candidate(kinds, end);
+    if ROWS <= row {
+        return Ending::Nothing;
+    }
+    let n = width(row);
+    if n == 1 {
+        return Ending::Row {
+            row,
+            start: end - 1,
+        };
+    }
+    if n == 4 {
+        if !checked(kinds, numbers, end) {
+            return Ending::Nothing;
+        }
+        return Ending::Row {
+            row,
+            start: end - 4,
+        };
+    }
+    if !ends(kinds, numbers, end, row) {
+        return Ending::Nothing;
+    }
+    Ending::Row {
+        row,
+        start: end - n,
+    }
+}

@@ -1,0 +1,27 @@
+-- The tokens left fall.
+use borrow.Author.Needs.{needs}
+use Prim.Native.Nat.{_-_}
+use Rattle.examples.proofs.print.tokens.Statement.{statement}
+use Rattle.examples.proofs.print.tokens.Tie as tie
+
+abbrev Inv-loop : tie.InvT-loop
+Inv-loop kinds numbers records i₀ i = Unit {0}
+
+abbrev μ-loop : tie.MeasureT-loop
+μ-loop kinds numbers records i₀ i = records - i
+
+pub tokens-spec : {M : Type 1} → statement M
+tokens-spec =
+    tie.close
+    (tie.spec
+    Inv-loop
+    μ-loop
+    (λ c. search needs)
+    (λ c. search needs)
+    (λ c. search needs)
+    (λ c. search needs)
+    (λ c κs. search needs)
+    (λ c. search needs)
+    (λ c. search needs)
+    (λ c. search needs)
+    (λ c. search needs))

@@ -1,0 +1,61 @@
+-- What Write and Decode make of the number of records: Write looks no further than a form reaches.
+use Prim.Native.Nat.{ℕ, _≤_, _<_}
+use mathlib.Core.Bool.{Bool, true, false, _&&_}
+use mathlib.Core.Path.{_≡_, refl, ap}
+use mathlib.Core.List.{List, [], _∷_}
+use native.Mathlib.Omega.{arith}
+use borrow.Author.Tests.{leb-true, lt-leb}
+use lib.ListN.{length}
+use lib.Dec.{leb}
+use Rattle.num64.specs.Bytes.{Bytes}
+use Rattle.semantics.specs.declared.Decoded.{Decoded}
+use Rattle.semantics.specs.declared.Refusal.{Refusal}
+use Rattle.semantics.specs.Check.{Condition, condition, firstOf, unless}
+use Rattle.semantics.specs.Code.{maxTokens}
+use Rattle.semantics.specs.Decode.{decoded}
+use Rattle.semantics.specs.Oracle.{oracles}
+use Rattle.semantics.specs.Records.{Records}
+use Rattle.semantics.specs.Token.{form, narrow}
+use Rattle.semantics.specs.Trees.{Arith}
+use Rattle.semantics.specs.Write.{roomFor, writesUnless, writing, writingBy}
+use Rattle.semantics.proofs.Passing.{passing}
+use Rattle.semantics.proofs.Tests.{and-true}
+use Rattle.records.proofs.Stored.{countOf}
+
+pub too-many : (r : Records) (old : List ℕ) → maxTokens < length (r .kinds)
+    → decoded r old ≡ record { answer = Decoded.Refused Refusal.TooManyRecords; buffer = old }
+unfolding decoded
+too-many r old h = rw (lt-leb (length (r .kinds)) maxTokens h)
+
+pub writing-alike : (b : List ℕ) → Bytes b → (r s : Records) → ((t n : ℕ) → t ≤ maxTokens → roomFor t n r ≡ roomFor t n s) → writing b r ≡ writing b s
+unfolding writing
+writing-alike b h r s same = go (condition b) refl
+  where
+    go : (k : Condition) → condition b ≡ k → writingBy k r ≡ writingBy k s
+    go (Condition.refused x) e = refl
+    go (Condition.passed a) e =
+        ap (λ (t : Bool). writesUnless (firstOf (unless (narrow (form a)) Refusal.IndexConstTooLarge ∷ unless t Refusal.BufferTooShort ∷ [])) a)
+        (same (length (form a)) (oracles a) (passing b h a e .few))
+
+-- what is written has room
+pub writing-fits : (b : List ℕ) (r : Records) → (countOf (writing b r) ≤ length (r .kinds)) × (countOf (writing b r) ≤ length (r .places))
+unfolding writing
+writing-fits b r = go (condition b)
+  where
+    fits : (t n : ℕ) → roomFor t n r ≡ true → (t ≤ length (r .kinds)) × (t ≤ length (r .places))
+    fits t n e =
+        let p = and-true (leb t (length (r .kinds)) && leb t (length (r .numbers)) && leb t (length (r .places))) _ e in
+        let q = and-true (leb t (length (r .kinds)) && leb t (length (r .numbers))) (leb t (length (r .places))) (p .0) in
+        let k = and-true (leb t (length (r .kinds))) (leb t (length (r .numbers))) (q .0) in
+        (leb-true t (length (r .kinds)) (k .0), leb-true t (length (r .places)) (q .1))
+
+    by : (a : Arith) (p q : Bool) → roomFor (length (form a)) (oracles a) r ≡ q
+        → let w = writesUnless (firstOf (unless p Refusal.IndexConstTooLarge ∷ unless q Refusal.BufferTooShort ∷ [])) a in
+        (countOf w ≤ length (r .kinds)) × (countOf w ≤ length (r .places))
+    by a true true e = fits (length (form a)) (oracles a) e
+    by a true false e = (omega arith, omega arith)
+    by a false q e = (omega arith, omega arith)
+
+    go : (k : Condition) → (countOf (writingBy k r) ≤ length (r .kinds)) × (countOf (writingBy k r) ≤ length (r .places))
+    go (Condition.refused x) = (omega arith, omega arith)
+    go (Condition.passed a) = by a (narrow (form a)) (roomFor (length (form a)) (oracles a) r) refl

@@ -1,0 +1,26 @@
+-- The places left fall.
+use borrow.Author.Needs.{needs}
+use Prim.Native.Nat.{_-_}
+use lib.ListN.{length}
+use Rattle.vectors.proofs.case.kept.Statement.{statement}
+use Rattle.vectors.proofs.case.kept.Tie as tie
+
+abbrev Inv-loop : tie.InvT-loop
+Inv-loop buffer from fill i₀ i = Unit {0}
+
+abbrev μ-loop : tie.MeasureT-loop
+μ-loop buffer from fill i₀ i = length buffer - i
+
+pub kept-spec : {M : Type 1} → statement M
+kept-spec =
+    tie.close
+    (tie.spec
+    Inv-loop
+    μ-loop
+    (λ c. search needs)
+    (λ c. search needs)
+    (λ c. search needs)
+    (λ c. search needs)
+    (λ c. search needs)
+    (λ c. search needs)
+    (λ c. search needs))

@@ -1,0 +1,40 @@
+-- The key is the first 32 operand bytes of an oracle terminal.
+use borrow.Author.Needs.{needs}
+use mathlib.Core.Path.{refl, sym}
+use native.Mathlib.Omega.{arith}
+use Rattle.writer.proofs.Over.{key-bytes, key-length}
+use Rattle.writer.proofs.records.put_key.Statement.{statement}
+use Rattle.writer.proofs.records.put_key.Tie as tie
+
+pub put-key-spec : {M : Type 1} → statement M
+put-key-spec =
+    tie.close
+    (tie.spec
+    (λ c. search needs)
+    (λ c. search needs)
+    (λ c. search needs)
+    (λ c. search needs)
+    (λ c. search needs)
+    (λ c. search needs)
+    (λ c. search needs)
+    (λ c. search needs)
+    (λ c. search needs)
+    (λ c. search needs)
+    (λ c κs. let q = rw (c .before .enum-told10 .given .1) at (c .before .before .before .before .before .pre) in (omega (arith, q .0), omega (arith, q .1, key-length (c .before .before .before .before .before .args .code .now) (c .before .before .before .before .before .args .at) (q .0))))
+    (λ c. search needs)
+    (λ c κs. let q = rw (c .before .enum-told11 .given .1) at (c .before .before .before .before .before .pre) in (omega (arith, q .0), omega (arith, q .1, key-length (c .before .before .before .before .before .args .code .now) (c .before .before .before .before .before .args .at) (q .0))))
+    (λ c. search needs)
+    (λ c. rw (c .enum-told .given .1) (refl, refl))
+    (λ c. rw (c .enum-told2 .given .1) (refl, refl))
+    (λ c. rw (c .enum-told3 .given .1) (refl, refl))
+    (λ c. rw (c .enum-told4 .given .1) (refl, refl))
+    (λ c. rw (c .enum-told5 .given .1) (refl, refl))
+    (λ c. rw (c .enum-told6 .given .1) (refl, refl))
+    (λ c. rw (c .enum-told7 .given .1) (refl, refl))
+    (λ c. rw (c .enum-told8 .given .1) (refl, refl))
+    (λ c. rw (c .enum-told9 .given .1) (refl, refl))
+    (λ c. search needs)
+    (λ c. let q = rw (c .before .before .before .before .enum-told10 .given .1) at (c .before .before .before .before .before .before .before .before .pre) in rw (c .before .before .before .before .enum-told10 .given .1) (sym (key-length (c .before .before .before .before .before .before .before .before .args .code .now) (c .before .before .before .before .before .before .before .before .args .at) (q .0)), rw (key-bytes (c .before .before .before .before .before .before .before .before .args .code .now) (c .before .before .before .before .before .before .before .before .args .at)) (c .before .before .copy-key .ensures)))
+    (λ c. search needs)
+    (λ c. let q = rw (c .before .before .before .before .enum-told11 .given .1) at (c .before .before .before .before .before .before .before .before .pre) in rw (c .before .before .before .before .enum-told11 .given .1) (sym (key-length (c .before .before .before .before .before .before .before .before .args .code .now) (c .before .before .before .before .before .before .before .before .args .at) (q .0)), rw (key-bytes (c .before .before .before .before .before .before .before .before .args .code .now) (c .before .before .before .before .before .before .before .before .args .at)) (c .before .before .copy-key2 .ensures)))
+    (λ c. rw (c .enum-told12 .given .1) (refl, refl)))

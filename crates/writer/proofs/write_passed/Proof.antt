@@ -1,0 +1,26 @@
+-- The arrays have room for as many operands and marks as the condition has tokens.
+use borrow.Author.Needs.{needs}
+use Rattle.condition.proofs.Onward.{accepted}
+use Rattle.writer.proofs.write_passed.Statement.{statement}
+use Rattle.writer.proofs.write_passed.Tie as tie
+
+pub write-passed-spec : {M : Type 1} → statement M
+write-passed-spec =
+    tie.close
+    (tie.spec
+    (λ c. search needs)
+    (λ c. search needs)
+    (λ c κs. (c .before .before .before .before .before .before .before .before .before .before .before .before .pre, c .before .before .before .before .before .before .if1 .taken, c .before .before .before .before .before .before .if1 .taken))
+    (λ c. search needs)
+    (λ c. search needs)
+    (λ c. search needs)
+    (λ c. search needs)
+    (λ c. c .before .before .before .before .before .before .before .before .before .before .write-with .ensures)
+    (λ c. search needs)
+    (λ c. search needs)
+    (λ c κs. let h = accepted (c .before .before .before .before .before .before .before .before .before .before .before .before .args .code .now) (c .before .before .before .before .before .before .before .before .before .before .before .before .args .tokens) (c .before .before .before .before .before .before .before .before .before .before .before .before .args .oracles) (c .before .before .before .before .before .before .before .before .before .before .before .before .pre) .few in (c .before .before .before .before .before .before .before .before .before .before .before .before .pre, h, h))
+    (λ c. search needs)
+    (λ c. search needs)
+    (λ c. search needs)
+    (λ c. search needs)
+    (λ c. c .before .before .before .before .before .before .before .before .before .before .write-with2 .ensures))

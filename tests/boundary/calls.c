@@ -1,0 +1,161 @@
+/* Calls each function of libcovenant.a on good and bad input, with guarded buffers: what is not reported must be kept. */
+#include "covenant.h"
+#include <stdio.h>
+#include <string.h>
+
+#define FILL 0xa5
+#define COUNT(a) (sizeof(a) / sizeof *(a))
+
+static int failures;
+
+static void expect(int holds, const char *what) {
+    if (!holds) {
+        printf("boundary: %s\n", what);
+        failures++;
+    }
+}
+
+static int kept(const void *p, size_t from, size_t to) {
+    const uint8_t *b = p;
+    for (size_t i = from; i < to; i++)
+        if (b[i] != FILL) return 0;
+    return 1;
+}
+
+/* 5 Eq 5 */
+static const uint8_t five[19] = {16, 5, 0, 0, 0, 0, 0, 0, 0, 16, 5, 0, 0, 0, 0, 0, 0, 0, 48};
+
+/* the amount at the current index less one, Eq 7 */
+static const uint8_t less_one[22] = {2, 1, 1, 0, 0, 0, 0, 0, 0, 0, 4, 18, 16, 7, 0, 0, 0, 0, 0, 0, 0, 48};
+
+/* an oracle terminal with time 5, Eq 9 */
+static void oracle_code(uint8_t code[51]) {
+    memset(code, 0, 51);
+    code[0] = 32;
+    for (int i = 0; i < 32; i++) code[1 + i] = (uint8_t)(i + 1);
+    code[33] = 5;
+    code[41] = 16;
+    code[42] = 9;
+    code[50] = 48;
+}
+
+static void check(void) {
+    covenant_checked a = covenant_check(five, sizeof five);
+    expect(a.number == 0 && a.place == 0, "check: 5 Eq 5");
+    a = covenant_check(0, 0);
+    expect(a.number == 2 && a.place == 0, "check: no code");
+    a = covenant_check(five, 9);
+    expect(a.number == 2 && a.place == 9, "check: a constant alone");
+    static const uint8_t long_code[9217];
+    a = covenant_check(long_code, sizeof long_code);
+    expect(a.number == 1 && a.place == 0, "check: code that is too long");
+}
+
+static void evaluate(void) {
+    uint64_t spent[2] = {7, 8}, none[2] = {0, 0};
+    uint8_t marks[2] = {1, 1}, hidden[2] = {0, 0};
+    covenant_evaluated a;
+#define AT(code, current, witness, ends, n, checks, room) \
+    covenant_evaluate(code, sizeof code, spent, 2, marks, 2, 0, 0, 0, 0, none, 2, hidden, 2, none, 2, hidden, 2, current, witness, n ? sizeof witness : 0, \
+                      ends, n, checks, room)
+    uint8_t empty[1] = {0};
+    uint32_t no_ends[1] = {0};
+    a = AT(less_one, 0, empty, no_ends, 0, empty, 0);
+    expect(a.number == 41 && a.verdict == 0 && a.checks == 0 && a.left == 0, "evaluate: current index less one at 0");
+    a = AT(less_one, 1, empty, no_ends, 0, empty, 0);
+    expect(a.number == 0 && a.verdict == 1, "evaluate: current index less one at 1");
+    a = AT(less_one, 5, empty, no_ends, 0, empty, 0);
+    expect(a.number == 20 && a.first == 4 && a.second == 2, "evaluate: beyond the inputs");
+
+    uint8_t code[51], witness[80], buffer[112 + 16];
+    uint32_t ends[3] = {64, 72, 80};
+    oracle_code(code);
+    memset(witness, 3, sizeof witness);
+    memset(witness + 64, 0, 16);
+    witness[64] = 4; /* the time */
+    witness[72] = 9; /* the price */
+    memset(buffer, FILL, sizeof buffer);
+    a = AT(code, 0, witness, ends, 3, buffer, 112);
+    expect(a.number == 0 && a.verdict == 1 && a.checks == 1 && a.left == 0, "evaluate: an oracle terminal");
+    expect(!memcmp(buffer, code + 1, 40) && buffer[40] == 9 && !memcmp(buffer + 48, witness, 64), "evaluate: the check's bytes");
+    expect(kept(buffer, 112, sizeof buffer), "evaluate: bytes after the check");
+    memset(buffer, FILL, sizeof buffer);
+    a = AT(code, 0, witness, ends, 3, buffer, 111);
+    expect(a.number == 7 && a.left == 3 && kept(buffer, 0, sizeof buffer), "evaluate: a short buffer");
+    ends[0] = 73;
+    a = AT(code, 0, witness, ends, 3, buffer, 112);
+    expect(a.number == 12 && a.left == 3 && kept(buffer, 0, sizeof buffer), "evaluate: ends that fall");
+    marks[0] = 2;
+    a = AT(code, 0, witness, ends, 3, buffer, 112);
+    expect(a.number == 8 && a.left == 3 && kept(buffer, 0, sizeof buffer), "evaluate: a mark of 2");
+}
+
+/* Twelve tokens; what is lent has two records and 8 key bytes more than are written. */
+static void write_and_decode(void) {
+    uint8_t code[51], kinds[14], keys[40], back[9216 + 8];
+    uint64_t numbers[14];
+    uint32_t places[14];
+    oracle_code(code);
+    memset(kinds, FILL, sizeof kinds);
+    memset(numbers, FILL, sizeof numbers);
+    memset(places, FILL, sizeof places);
+    memset(keys, FILL, sizeof keys);
+    covenant_written w = covenant_write(code, sizeof code, kinds, 11, numbers, 14, places, 14, keys, 40);
+    expect(w.number == 7 && w.records == 0 && kept(kinds, 0, sizeof kinds) && kept(keys, 0, sizeof keys), "write: too few records");
+    w = covenant_write(code, sizeof code, kinds, 14, numbers, 14, places, 14, keys, 31);
+    expect(w.number == 7 && kept(kinds, 0, sizeof kinds) && kept(keys, 0, sizeof keys), "write: too few key bytes");
+    w = covenant_write(code, sizeof code, kinds, 14, numbers, 14, places, 14, keys, 40);
+    static const uint8_t form[12] = {25, 26, 2, 28, 15, 32, 33, 3, 34, 27, 2, 14};
+    expect(w.number == 0 && w.records == 12 && w.key_bytes == 32, "write: an oracle terminal");
+    expect(!memcmp(kinds, form, 12) && numbers[2] == 5 && numbers[10] == 9 && numbers[0] == 0 && places[7] == 0, "write: the form");
+    expect(!memcmp(keys, code + 1, 32), "write: the key");
+    expect(kept(kinds, 12, 14) && kept(numbers, 12 * 8, sizeof numbers) && kept(places, 12 * 4, sizeof places) && kept(keys, 32, 40), "write: what is kept");
+
+    memset(back, FILL, sizeof back);
+    covenant_decoded d = covenant_decode(kinds, 12, numbers, 12, places, 12, keys, 32, back, 9216);
+    expect(d.number == 0 && d.code_bytes == sizeof code && d.start == 0 && !memcmp(back, code, sizeof code), "decode: what was written");
+    expect(kept(back, sizeof code, sizeof back), "decode: what is kept");
+    memset(back, FILL, sizeof back);
+    d = covenant_decode(kinds, 12, numbers, 12, places, 12, keys, 31, back, 9216);
+    expect(d.number == 9 && d.place == 7 && kept(back, 0, sizeof back), "decode: a key that is cut off");
+    d = covenant_decode(kinds, 12, numbers, 12, places, 12, keys, 32, back, 9215);
+    expect(d.number == 7 && kept(back, 0, sizeof back), "decode: a short buffer");
+    d = covenant_decode(kinds, 11, numbers, 12, places, 12, keys, 32, back, 9216);
+    expect(d.number == 11 && kept(back, 0, sizeof back), "decode: no condition");
+    static const uint8_t many[1025];
+    d = covenant_decode(many, 1025, 0, 0, 0, 0, 0, 0, back, 9216);
+    expect(d.number == 10 && kept(back, 0, sizeof back), "decode: too many records");
+    d = covenant_decode(0, 0, 0, 0, 0, 0, 0, 0, back, 9216);
+    expect(d.number == 11, "decode: no records");
+}
+
+static void records(void) {
+    expect(sizeof(covenant_record) == 24, "a record is 24 bytes");
+    uint8_t code[51], keys[40], back[9216 + 8];
+    covenant_record r[14];
+    oracle_code(code);
+    memset(r, FILL, sizeof r);
+    memset(keys, FILL, sizeof keys);
+    covenant_written w = covenant_write_records(code, sizeof code, r, 11, keys, 40);
+    expect(w.number == 7 && kept(r, 0, sizeof r) && kept(keys, 0, sizeof keys), "write_records: too few records");
+    w = covenant_write_records(code, sizeof code, r, 14, keys, 40);
+    expect(w.number == 0 && w.records == 12 && w.key_bytes == 32, "write_records: an oracle terminal");
+    expect(r[0].kind == 25 && r[2].kind == 2 && r[2].number == 5 && r[7].kind == 3 && r[7].place == 0 && r[11].kind == 14, "write_records: the form");
+    expect(kept(r, 12 * sizeof *r, sizeof r) && kept(keys, 32, 40), "write_records: what is kept");
+    memset(back, FILL, sizeof back);
+    covenant_decoded d = covenant_decode_records(r, 12, keys, 32, back, 9216);
+    expect(d.number == 0 && d.code_bytes == sizeof code && d.start == 0 && !memcmp(back, code, sizeof code), "decode_records: what was written");
+    expect(kept(back, sizeof code, sizeof back), "decode_records: what is kept");
+    static const covenant_record many[1025];
+    d = covenant_decode_records(many, COUNT(many), keys, 32, back, 9216);
+    expect(d.number == 10, "decode_records: too many records");
+}
+
+int main(void) {
+    check();
+    evaluate();
+    write_and_decode();
+    records();
+    if (!failures) puts("boundary: the calls from C agree");
+    return failures != 0;
+}

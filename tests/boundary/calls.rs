@@ -1,0 +1,29 @@
+//! Calls the archive from Rust, on good and bad input.
+mod covenant;
+use covenant::List;
+
+fn main() {
+    let five = [16, 5, 0, 0, 0, 0, 0, 0, 0, 16, 5, 0, 0, 0, 0, 0, 0, 0, 48];
+    assert_eq!(covenant::check(&five), covenant::Checked { number: 0, place: 0 });
+    assert_eq!(covenant::check(&five[..9]), covenant::Checked { number: 2, place: 9 });
+
+    let list = |numbers: &[u64], mark| List { numbers: numbers.to_vec(), marks: vec![mark; numbers.len()] };
+    let lists = [list(&[7, 8], 1), list(&[], 1), list(&[0, 0], 0), list(&[0, 0], 0)];
+    let less_one = [2, 1, 1, 0, 0, 0, 0, 0, 0, 0, 4, 18, 16, 7, 0, 0, 0, 0, 0, 0, 0, 48];
+    let at = |current| covenant::evaluate(&less_one, &lists, current, &[], &[], &mut []);
+    assert_eq!((at(0).number, at(0).verdict), (41, 0));
+    assert_eq!((at(1).number, at(1).verdict), (0, 1));
+    assert_eq!((at(9).number, at(9).first, at(9).second), (20, 8, 2));
+
+    let (mut kinds, mut numbers, mut places, mut keys) = ([9; 4], [9; 4], [9; 4], [9; 1]);
+    let w = covenant::write(&five, &mut kinds, &mut numbers, &mut places, &mut keys);
+    assert_eq!((w.number, w.records, w.key_bytes), (0, 3, 0));
+    assert_eq!((kinds, numbers, places, keys), ([2, 2, 14, 9], [5, 5, 0, 9], [0, 0, 0, 9], [9]));
+
+    let mut code = [0xa5; 9217];
+    let d = covenant::decode(&kinds[..3], &numbers, &places, &[], &mut code);
+    assert_eq!((d.number, d.code_bytes, d.start), (0, 19, 0));
+    assert!(code[..19] == five && code[19..].iter().all(|b| *b == 0xa5));
+    assert_eq!(covenant::decode(&kinds, &numbers, &places, &[], &mut code).number, 11);
+    println!("boundary: the calls from Rust agree");
+}

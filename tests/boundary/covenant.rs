@@ -1,0 +1,98 @@
+//! Rust's view of libcovenant.a. A slice is passed as a pointer and a number of elements.
+#![allow(dead_code)]
+
+#[repr(C)]
+#[derive(Clone, Copy, Debug, PartialEq)]
+pub struct Checked {
+    pub number: u32,
+    pub place: u64,
+}
+
+#[repr(C)]
+#[derive(Clone, Copy, Debug, PartialEq)]
+pub struct Evaluated {
+    pub number: u32,
+    pub verdict: u32,
+    pub first: u64,
+    pub second: u64,
+    pub checks: u64,
+    pub left: u64,
+}
+
+#[repr(C)]
+#[derive(Clone, Copy, Debug, PartialEq)]
+pub struct Written {
+    pub number: u32,
+    pub place: u64,
+    pub records: u64,
+    pub key_bytes: u64,
+}
+
+#[repr(C)]
+#[derive(Clone, Copy, Debug, PartialEq)]
+pub struct Decoded {
+    pub number: u32,
+    pub place: u64,
+    pub code_bytes: u64,
+    pub start: u64,
+}
+
+mod archive {
+    use super::*;
+    #[link(name = "covenant", kind = "static")]
+    extern "C" {
+        pub fn covenant_check(code: *const u8, n: usize) -> Checked;
+        pub fn covenant_evaluate(
+            code: *const u8, n: usize, spent: *const u64, n: usize, marks: *const u8, n: usize, outputs: *const u64, n: usize, marks: *const u8, n: usize,
+            issued: *const u64, n: usize, marks: *const u8, n: usize, reissued: *const u64, n: usize, marks: *const u8, n: usize, current: u64,
+            witness: *const u8, n: usize, ends: *const u32, n: usize, checks: *mut u8, n: usize,
+        ) -> Evaluated;
+        pub fn covenant_write(
+            code: *const u8, n: usize, kinds: *mut u8, n: usize, numbers: *mut u64, n: usize, places: *mut u32, n: usize, keys: *mut u8, n: usize,
+        ) -> Written;
+        pub fn covenant_decode(
+            kinds: *const u8, n: usize, numbers: *const u64, n: usize, places: *const u32, n: usize, keys: *const u8, n: usize, code: *mut u8, n: usize,
+        ) -> Decoded;
+    }
+}
+
+/// Amounts, and a mark for each.
+#[derive(Clone, Debug, Default)]
+pub struct List {
+    pub numbers: Vec<u64>,
+    pub marks: Vec<u8>,
+}
+
+pub fn check(code: &[u8]) -> Checked {
+    unsafe { archive::covenant_check(code.as_ptr(), code.len()) }
+}
+
+/// Lists are spent, outputs, issued and reissued.
+pub fn evaluate(code: &[u8], lists: &[List; 4], current: u64, witness: &[u8], ends: &[u32], checks: &mut [u8]) -> Evaluated {
+    let [s, o, i, r] = lists;
+    unsafe {
+        archive::covenant_evaluate(
+            code.as_ptr(), code.len(), s.numbers.as_ptr(), s.numbers.len(), s.marks.as_ptr(), s.marks.len(), o.numbers.as_ptr(), o.numbers.len(),
+            o.marks.as_ptr(), o.marks.len(), i.numbers.as_ptr(), i.numbers.len(), i.marks.as_ptr(), i.marks.len(), r.numbers.as_ptr(), r.numbers.len(),
+            r.marks.as_ptr(), r.marks.len(), current, witness.as_ptr(), witness.len(), ends.as_ptr(), ends.len(), checks.as_mut_ptr(), checks.len(),
+        )
+    }
+}
+
+pub fn write(code: &[u8], kinds: &mut [u8], numbers: &mut [u64], places: &mut [u32], keys: &mut [u8]) -> Written {
+    unsafe {
+        archive::covenant_write(
+            code.as_ptr(), code.len(), kinds.as_mut_ptr(), kinds.len(), numbers.as_mut_ptr(), numbers.len(), places.as_mut_ptr(), places.len(),
+            keys.as_mut_ptr(), keys.len(),
+        )
+    }
+}
+
+pub fn decode(kinds: &[u8], numbers: &[u64], places: &[u32], keys: &[u8], code: &mut [u8]) -> Decoded {
+    unsafe {
+        archive::covenant_decode(
+            kinds.as_ptr(), kinds.len(), numbers.as_ptr(), numbers.len(), places.as_ptr(), places.len(), keys.as_ptr(), keys.len(), code.as_mut_ptr(),
+            code.len(),
+        )
+    }
+}

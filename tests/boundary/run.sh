@@ -1,0 +1,25 @@
+#!/bin/sh
+# run.sh: links libcovenant.a with programs in C (with a C library and without) and in Rust, and runs them.
+set -eu
+here=$(cd "$(dirname "$0")" && pwd)
+root=$(cd "$here/../.." && pwd)
+lib=$root/target/staticlib
+out=$root/target/boundary
+mkdir -p "$out"
+if command -v gcc >/dev/null; then
+    gcc -O2 -Wall -Wextra -Werror -I"$root/include" "$here/calls.c" "$lib/libcovenant.a" -o "$out/calls_c"
+    "$out/calls_c"
+    gcc -O2 -Wall -ffreestanding -fno-builtin -nostdlib -static -I"$root/include" "$here/bare.c" "$lib/libcovenant.a" -o "$out/bare"
+    status=0
+    "$out/bare" || status=$?
+    test "$status" = 2 || { echo "boundary: with no C library the answer was $status"; exit 1; }
+    echo "boundary: the archive links with memset and memcpy alone"
+else
+    echo "boundary: no gcc here, so the calls from C were not tried"
+fi
+if command -v rustc >/dev/null; then
+    rustc --edition 2021 -O -L "$lib" -o "$out/calls_rs" "$here/calls.rs"
+    "$out/calls_rs"
+else
+    echo "boundary: no rustc here, so the calls from Rust were not tried"
+fi

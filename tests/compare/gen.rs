@@ -1,0 +1,209 @@
+// Random cases. The same seed gives the same cases.
+use crate::published::{hex, spell};
+use crate::common::*;
+use elements_miniscript::miniscript::lex::lex;
+
+const KEYS: [u8; 4] = [2, 3, 4, 6];
+
+struct Random(u64);
+impl Random {
+    fn next(&mut self) -> u64 {
+        self.0 = self.0.wrapping_add(0x9e3779b97f4a7c15);
+        let z = (self.0 ^ self.0 >> 30).wrapping_mul(0xbf58476d1ce4e5b9);
+        let z = (z ^ z >> 27).wrapping_mul(0x94d049bb133111eb);
+        z ^ z >> 31
+    }
+    fn below(&mut self, n: usize) -> usize {
+        (self.next() % n as u64) as usize
+    }
+    fn of<T: Copy>(&mut self, all: &[T]) -> T {
+        all[self.below(all.len())]
+    }
+    fn bytes(&mut self, n: usize) -> Vec<u8> {
+        (0..n).map(|_| self.next() as u8).collect()
+    }
+    fn value(&mut self) -> i64 {
+        match self.below(3) {
+            0 => self.of(&[0, 1, -1, 2, -2, 7, -7, i64::MAX, i64::MIN, i64::MIN + 1, i64::MAX - 1]),
+            1 => self.below(100) as i64 - 50,
+            _ => self.next() as i64,
+        }
+    }
+}
+
+/// One of four keys, so that equal keys occur; each is the x coordinate of a point, so the real crate takes it.
+fn key(r: &mut Random) -> Vec<u8> {
+    let first = r.of(&KEYS);
+    (0..32).map(|i| first + 7 * i).collect()
+}
+
+/// Times are small.
+fn oracle(r: &mut Random, c: u8, out: &mut Vec<u8>) {
+    out.push(c);
+    out.extend(key(r));
+    out.extend((r.below(8) as u64).to_le_bytes());
+}
+
+fn index(r: &mut Random, size: usize, out: &mut Vec<u8>) {
+    if size < 2 {
+        if r.below(3) == 0 {
+            return out.push(2);
+        }
+        out.push(1);
+        let n = if r.below(8) > 0 { r.below(4) as u64 } else { r.of(&[16, 17, 127, 128, 255, 256, 32767, 32768, 0x7fffffff]) };
+        return out.extend(n.to_le_bytes());
+    }
+    let left = r.below(size);
+    index(r, left, out);
+    index(r, size - 1 - left, out);
+    out.push(r.of(&[3, 3, 4, 5, 6]));
+}
+
+/// A value of about `size` operations. Its first terminal is the condition's first where `first` holds.
+fn value(r: &mut Random, size: usize, first: bool, out: &mut Vec<u8>) {
+    if size < 2 {
+        return match r.below(10) {
+            0..=3 => {
+                out.push(16);
+                out.extend(r.value().to_le_bytes())
+            }
+            4 => out.push(17),
+            5..=7 => {
+                let n = r.below(4);
+                index(r, n, out);
+                out.push(r.of(&[18, 18, 19, 19, 20, 21]))
+            }
+            _ => {
+                // now and then one that the oracle rules turn down
+                let c = if first != (r.below(20) == 0) { 32 } else { 33 };
+                oracle(r, c, out)
+            }
+        };
+    }
+    if r.below(5) == 0 {
+        value(r, size - 1, first, out);
+        return out.push(r.of(&[30, 31]));
+    }
+    let left = r.below(size);
+    value(r, left, first, out);
+    value(r, size - 1 - left, false, out);
+    out.push(r.of(&[22, 22, 23, 23, 24, 25, 26, 27, 28, 29]));
+}
+
+fn condition(r: &mut Random) -> Vec<u8> {
+    let mut out = vec![];
+    let (left, right) = match r.below(64) {
+        0 => (r.below(200), r.below(200)),
+        1..=8 => (r.below(40), r.below(40)),
+        _ => (r.below(6), r.below(4)),
+    };
+    value(r, left, true, &mut out);
+    value(r, right, false, &mut out);
+    out.push(48 + r.below(5) as u8);
+    out
+}
+
+fn amounts(r: &mut Random, n: usize) -> String {
+    let all: Vec<String> = (0..n)
+        .map(|_| match r.below(8) {
+            0 => "x".into(),
+            1 => (r.value() as u64).to_string(),
+            _ => r.below(1000).to_string(),
+        })
+        .collect();
+    if n == 0 { "-".into() } else { all.join(",") }
+}
+
+fn witness(r: &mut Random, terminals: usize) -> String {
+    let mut all = vec![];
+    for _ in 0..terminals + r.below(2) {
+        let wrong = |r: &mut Random, n: usize| if r.below(25) == 0 { r.of(&[0, 1, 7, 9, 32, 63, 65]) } else { n };
+        let n = wrong(r, 64);
+        all.push(r.bytes(n));
+        let n = wrong(r, 8);
+        all.push((r.below(4) as u64).to_le_bytes().into_iter().cycle().take(n).collect());
+        let n = wrong(r, 8);
+        let price = if r.below(10) == 0 { r.next() } else { r.below(1000) as u64 };
+        all.push(price.to_le_bytes().into_iter().cycle().take(n).collect());
+    }
+    let cut = if r.below(10) == 0 { r.below(all.len() + 1) } else { 0 };
+    let all: Vec<String> = all[cut..].iter().map(|b| if b.is_empty() { ".".into() } else { hex(b) }).collect();
+    if all.is_empty() { "-".into() } else { all.join(",") }
+}
+
+/// The commands 32 and 33 of a code.
+fn terminals(code: &[u8]) -> usize {
+    let (mut at, mut n) = (0, 0);
+    while at < code.len() {
+        let c = code[at];
+        n += (c == 32 || c == 33) as usize;
+        at += match c {
+            1 | 16 => 9,
+            32 | 33 => 41,
+            _ => 1,
+        };
+    }
+    n
+}
+
+fn form(code: &[u8]) -> Option<Vec<Record>> {
+    let script = tree(code).ok()?.push_to_builder(elements::script::Builder::new()).into_script();
+    Some(lex(&script).ok()?.iter().map(record).collect())
+}
+
+fn any(r: &mut Random) -> Record {
+    match r.below(40) {
+        k @ (0 | 4..=35) => Record(k as u8, vec![]),
+        1 => Record(1, (r.of(&[0, 1, 1, 2, 300]) as u32).to_le_bytes().to_vec()),
+        3 => Record(3, key(r)),
+        _ => Record(2, (r.below(9) as u64).to_le_bytes().to_vec()),
+    }
+}
+
+/// A token list: a form, with other tokens before it, and often changed a little.
+fn tokens(r: &mut Random) -> Vec<Record> {
+    let mut all: Vec<Record> = (0..r.of(&[0, 0, 1, 2, 5, 14])).map(|_| any(r)).collect();
+    let c = condition(r);
+    all.extend(form(&c).unwrap_or_default());
+    for _ in 0..r.of(&[0, 0, 0, 1, 1, 2, 4]) {
+        if all.is_empty() {
+            break;
+        }
+        let at = r.below(all.len());
+        match r.below(4) {
+            0 => drop(all.remove(at)),
+            1 => all[at] = any(r),
+            2 => all.insert(at, any(r)),
+            _ => {
+                // the later oracle form becomes the first's
+                if let Some(w) = all.windows(13).position(|w| w[0].0 == 26 && w[1].0 == 25 && w[12].0 == 35) {
+                    all.drain(w + 11..w + 13);
+                    all.remove(w);
+                }
+            }
+        }
+    }
+    all.split_off(all.len().saturating_sub(1024))
+}
+
+pub fn cases(seed: u64, count: usize, mut emit: impl FnMut(String)) {
+    let mut r = Random(seed);
+    for n in 0..count {
+        let c = condition(&mut r);
+        emit(match n % 8 {
+            0 => format!("C {}", hex(&c)),
+            1 | 2 => format!("W {}", hex(&c)),
+            3 | 4 => {
+                let all: Vec<String> = tokens(&mut r).iter().map(spell).collect();
+                format!("D {}", if all.is_empty() { "-".into() } else { all.join(",") })
+            }
+            _ => {
+                let (inputs, outputs) = (r.below(5), r.below(5));
+                let at = r.below(inputs + 2);
+                let (s, o, i, k) = (amounts(&mut r, inputs), amounts(&mut r, outputs), amounts(&mut r, inputs), amounts(&mut r, inputs));
+                let w = witness(&mut r, terminals(&c));
+                format!("E {} {at} {s} {o} {i} {k} {w}", hex(&c))
+            }
+        });
+    }
+}

@@ -1,0 +1,549 @@
+#!/usr/bin/env python3
+"""generate.py FILE: cases with known answers for crates/vectors. The answers are those of model.py, which is made from document 01's words, or of the published Rust
+(published.txt); each list below says what its cases are for. The same file comes out every time.
+
+A case is its length (4 bytes) and its body: the call (1 Check, 2 Evaluate, 3 Write, 4 Decode) and the number of parts, a byte each; the end of each part in the
+body, 4 bytes each; the parts. Numbers are little-endian, 8 bytes each unless said. The parts are
+  Check     code; number, place
+  Evaluate  code; spent; marks; outputs; marks; issued; marks; reissued; marks; witness; ends (4 bytes each);
+            current index, room for checks, number, verdict, first, second, checks, left; check bytes
+  Write     code; room of kinds, numbers, places and keys, number, place, records, key bytes; kinds; numbers; the key of each Bytes32
+  Decode    kinds; numbers; places (4 bytes each); keys; room for code, number, place, code bytes, start; code
+"""
+import os
+import random
+import struct
+import sys
+import threading
+from collections import Counter
+
+import model
+from model import BYTES8, BYTES32, MAX_CODE, MAX_TOKENS, NUM, code_of, form
+
+rng = random.Random(20)
+LEAST, GREATEST = -(2**63), 2**63 - 1
+EDGES = [0, 1, 2, -1, -2, 7, -7, 10, LEAST, LEAST + 1, GREATEST, GREATEST - 1, 2**32, 2**31, 3037000500]
+INDEX_EDGES = [0, 0, 0, 1, 1, 1, 2, 3, 2**31 - 1, 2**31, 2**32 - 1, 2**32, 2**63, 2**64 - 1]
+
+
+# ---- conditions
+
+def number():
+    return rng.choice(EDGES) if rng.random() < 0.7 else rng.randrange(LEAST, GREATEST + 1)
+
+
+def const(n):
+    return (16, n % 2**64)
+
+
+def index(depth, small=False):
+    r = rng.random()
+    if depth == 0 or r < 0.45:
+        return (2,) if rng.random() < 0.4 else (1, rng.randrange(3) if small or rng.random() < 0.6 else rng.choice(INDEX_EDGES))
+    return (rng.choice([3, 4, 5, 6]), index(depth - 1, small), index(depth - 1, small))
+
+
+def oracle(c):
+    return (c, rng.randbytes(32), rng.choice([0, 5, 5, 1000, 2**63, 2**64 - 1]))
+
+
+def value(depth, kinds="cilubo"):
+    r = rng.choice(kinds) if depth else rng.choice([k for k in kinds if k in "cilo"] or "c")
+    if r == "c":
+        return const(number())
+    if r == "i":
+        return (17,)
+    if r == "l":
+        return (rng.choice([18, 19, 20, 21]), index(rng.randrange(3), True))
+    if r == "o":
+        return oracle(33)
+    if r == "u":
+        return (rng.choice([30, 31]), value(depth - 1, kinds))
+    return (rng.randrange(22, 30), value(depth - 1, kinds), value(depth - 1, kinds))
+
+
+def first_to(t, terminal):
+    """The expression with another first terminal."""
+    if t[0] in (30, 31) or 22 <= t[0] <= 29:
+        return (t[0], first_to(t[1], terminal)) + t[2:]
+    return terminal
+
+
+def condition(depth=3, kinds="ciclubo"):
+    left, right = value(rng.randrange(depth + 1), kinds), value(rng.randrange(depth + 1), kinds)
+    if model.terminals(left)[0] == 33 and rng.random() < 0.95:
+        left = first_to(left, oracle(32) if rng.random() < 0.8 else const(5))
+    return (rng.randrange(48, 53), left, right)
+
+
+def chain(n, op, leaf):
+    """n leaves joined by a binary operation, nested to the left."""
+    t = leaf()
+    for _ in range(n - 1):
+        t = (op, t, leaf())
+    return t
+
+
+def right_chain(n, op, leaf):
+    t = leaf()
+    for _ in range(n - 1):
+        t = (op, leaf(), t)
+    return t
+
+
+def inverts(n, t):
+    for _ in range(n):
+        t = (30, t)
+    return t
+
+
+def sized(tokens):
+    """Conditions of exactly so many tokens: Invert, And nested to both sides, index Add nested to both sides, oracles."""
+    five = lambda: const(5)
+    odd = (tokens - 2) // 2
+    yield (48, inverts(tokens - 3, five()), five())
+    for make in (chain, right_chain):
+        t = make(odd, 27, five)
+        yield (48, inverts(tokens - 2 - (2 * odd - 1), t), five())
+        i = make((tokens - 6 + 1) // 2, 3, lambda: (1, 0))
+        used = len(form(i))
+        yield (48, inverts(tokens - 2 - 4 - used, (18, i)), five())
+    n = (tokens - 13) // 14
+    t = chain(n, 28, lambda: oracle(33))
+    rest = tokens - 3 - len(form(t))
+    yield (50, inverts(rest, (28, five(), t)), five()) if rest >= 1 else (50, (28, five(), t), five())
+
+
+def damaged(code):
+    b = bytearray(code)
+    for _ in range(rng.randrange(1, 3)):
+        r = rng.random()
+        at = rng.randrange(len(b) + 1)
+        if r < 0.35 and at < len(b):
+            b[at] = rng.choice([rng.randrange(256), rng.randrange(1, 53)])
+        elif r < 0.6:
+            del b[at : at + rng.randrange(1, 10)]
+        elif r < 0.85:
+            b[at:at] = bytes([rng.randrange(1, 53)])
+        else:
+            del b[at:]
+    return bytes(b)
+
+
+def rule_broken(which):
+    o32, o33 = oracle(32), oracle(33)
+    if which == 4:
+        left = rng.choice([o33, (22, o33, const(1)), (30, (27, o33, o32))])
+        return (rng.randrange(48, 53), left, rng.choice([const(5), o32, o33]))
+    left = rng.choice([(22, const(5), o32), (22, o32, o32), (23, (17,), (31, o32)), const(3)])
+    return (rng.randrange(48, 53), left, o32 if left[0] == 16 else rng.choice([const(5), o33]))
+
+
+def codes():
+    """Codes good and bad: what every call but Decode is given."""
+    out = []
+    out += [code_of(condition()) for _ in range(400)]
+    out += [damaged(code_of(condition())) for _ in range(500)]
+    out += [rng.randbytes(rng.randrange(12)) for _ in range(60)]
+    out += [bytes(rng.choice([1, 2, 3, 16, 17, 18, 22, 30, 48]) for _ in range(rng.randrange(12))) for _ in range(60)]
+    out += [code_of(rule_broken(4)) for _ in range(15)] + [code_of(rule_broken(5)) for _ in range(15)]
+    for n in (MAX_TOKENS, MAX_TOKENS + 1):
+        out += [code_of(t) for t in sized(n)] * 2
+    five = code_of((48, const(5), const(5)))
+    out += [five, b"", five[:9], five + b"\x10", five + b"\x30"]
+    out += [bytes(9216), bytes(9217), bytes([16]) * 9216, bytes([16]) * 9217, five + bytes(9216 - 19), five + bytes(9217 - 19)]
+    out += [rng.randbytes(9217 + rng.randrange(100)) for _ in range(10)]
+    for n in (2**32 - 1, 2**32, 2**64 - 1):
+        out += [code_of((48, (c, (1, n)), const(5))) for c in (18, 19, 20, 21)]
+        out += [code_of((48, const(1), (18, (3, (1, n), (2,)))))]
+    return out
+
+
+# ---- packing
+
+def words(*ns):
+    return struct.pack("<%dQ" % len(ns), *[n % 2**64 for n in ns])
+
+
+def pack(call, parts):
+    at, ends = 2 + 4 * len(parts), []
+    for p in parts:
+        at += len(p)
+        ends.append(at)
+    body = bytes([call, len(parts)]) + struct.pack("<%dI" % len(ends), *ends) + b"".join(parts)
+    return struct.pack("<I", len(body)) + body
+
+
+class Cases:
+    def __init__(self):
+        self.out, self.seen = [], Counter()
+
+    def add(self, call, number, parts):
+        self.seen[call, number] += 1
+        self.out.append(pack(call, parts))
+
+
+cases = Cases()
+
+
+# ---- Check
+
+def check(code):
+    number, place = model.check(code)
+    cases.add(1, number, [code, words(number, place)])
+
+
+# ---- Evaluate
+
+def amounts(n):
+    return ([rng.choice([0, 1, 7, 2**63 - 1, 2**63, 2**64 - 1, rng.randrange(2**64)]) for _ in range(n)], [int(rng.random() < 0.85) for _ in range(n)])
+
+
+def environment():
+    inputs = rng.choice([0, 1, 1, 2, 2, 2, 3, 3, 4])
+    lists = [amounts(inputs), amounts(rng.randrange(4)), amounts(inputs), amounts(inputs)]
+    if rng.random() < 0.04:
+        k = rng.randrange(4)
+        numbers, marks = lists[k]
+        bad = rng.randrange(3)
+        if bad == 0:
+            lists[k] = (numbers + [1], marks)
+        elif bad == 1:
+            lists[k] = (numbers, marks + [1])
+        else:
+            lists[k] = (numbers + [9], marks + [rng.choice([2, 255])])
+    return lists
+
+
+def witness_for(t):
+    """Elements in the order in which the terminals pop them, some of them wrong."""
+    elements = []
+    for c in [x for e in t[1:] for x in oracle_terminals(e)]:
+        price = rng.choice([0, 5, 100, 2**63 - 1, 2**63 - 1, 2**63, 2**64 - 1])
+        time = rng.choice([c[2], c[2], c[2], 0, max(c[2] - 1, 0), min(c[2] + 1, 2**64 - 1)])
+        e = [price.to_bytes(8, "little"), time.to_bytes(8, "little"), rng.randbytes(64)]
+        if rng.random() < 0.25:
+            k = rng.randrange(3)
+            e[k] = rng.choice([b"", e[k][1:], e[k] + b"\0"])
+        elements = elements + e
+    elements.reverse()
+    if rng.random() < 0.3:
+        elements = elements[rng.randrange(len(elements) + 1) :]
+    if rng.random() < 0.3:
+        elements = [rng.randbytes(rng.randrange(4)) for _ in range(rng.randrange(3))] + elements
+    return elements
+
+
+def oracle_terminals(t):
+    if t[0] in (32, 33):
+        return [t]
+    if t[0] <= 21:
+        return []
+    return [x for e in t[1:] for x in oracle_terminals(e)]
+
+
+def lend(elements):
+    ends, at = [], 0
+    for e in elements:
+        at += len(e)
+        ends.append(at)
+    extra = rng.choice([b"", b"", b"\x77"])
+    if rng.random() < 0.05 and ends:
+        k = rng.randrange(len(ends))
+        ends[k] = rng.choice([max(ends[k] - 9, 0), ends[k] + 100, 2**32 - 1])
+    return b"".join(elements) + extra, ends
+
+
+def evaluate(code, lists=None, current=None, lent=None, room=None):
+    try:
+        t = model.parse(code) if len(code) <= MAX_CODE else None
+    except model.Refused:
+        t = None
+    lists = lists or environment()
+    current = rng.choice([0, 0, 1, 1, 2, 3, len(lists[0][0]), 2**64 - 1]) if current is None else current
+    witness, ends = lend(witness_for(t) if t else [b"x"] * rng.randrange(3)) if lent is None else lent
+    need = 112 * model.oracles(t) if t else 0
+    room = max(need + rng.choice([0, 0, 0, 0, 0, 0, 5, -1]), 0) if room is None else room
+    answer = model.evaluate(code, lists, current, witness, ends, room)
+    parts = [code]
+    for numbers, marks in lists:
+        parts += [words(*numbers), bytes(marks)]
+    parts += [witness, struct.pack("<%dI" % len(ends), *ends), words(current, room, *answer[:6]), answer[6]]
+    cases.add(2, answer[0], parts)
+    return answer[0]
+
+
+def evaluations():
+    for code in codes():
+        evaluate(code)
+    for _ in range(2500):
+        evaluate(code_of(condition(4)))
+    for _ in range(1200):  # oracle terminals on every side
+        evaluate(code_of(condition(3, "oobuc")))
+    less_one = lambda: (18, (4, (2,), (1, 1)))  # the incident: the amount at the current index less one
+    for at in (0, 1):
+        evaluate(code_of((48, less_one(), const(7))), [([7, 8], [1, 1]), ([], []), ([0, 0], [0, 0]), ([0, 0], [0, 0])], at)
+    for c in (18, 19, 20, 21):  # every list at every place, explicit and not, and beyond
+        for i in range(4):
+            for mark in (0, 1):
+                lists = [([10 + k for k in range(3)], [mark] * 3) for _ in range(4)]
+                evaluate(code_of((49, (c, (1, i)), (17,))), lists, rng.randrange(4))
+    for op in range(22, 32):  # every operation at the edges
+        for x in EDGES:
+            for y in EDGES[:1] if op >= 30 else rng.sample(EDGES, 6) + [0, -1]:
+                t = (op, const(x)) if op >= 30 else (op, const(x), const(y))
+                evaluate(code_of((rng.randrange(48, 53), t, const(rng.choice([x, y, 0])))))
+    for x in EDGES:
+        for y in rng.sample(EDGES, 5) + [x]:
+            for c in range(48, 53):
+                evaluate(code_of((c, const(x), const(y))))
+    for x in INDEX_EDGES[2:]:  # every index step at the edges
+        for y in INDEX_EDGES[2:]:
+            evaluate(code_of((48, (18, (rng.choice([3, 4, 5, 6]), (1, x), (1, y))), const(1))))
+    ordered = (48, oracle(32), const(5))
+    for elements in ([b"1234567"], [bytes(8), bytes(8)], [bytes(63), bytes([255] * 8), bytes(8)], [bytes(64), bytes(8), bytes([255] * 8)], [], [bytes(9)]):
+        for _ in range(2):
+            evaluate(code_of(ordered), lent=(b"".join(elements), [sum(len(x) for x in elements[: k + 1]) for k in range(len(elements))]), room=112)
+    while cases.seen[2, 12] < 12 or cases.seen[2, 7] < 12:
+        evaluate(code_of(condition(2, "oc")), lists=[([], []), ([1], [1]), ([], []), ([], [])])
+
+
+# ---- Write
+
+def write(code):
+    try:
+        n, k = len(form(model.parse(code))), 32 * model.oracles(model.parse(code))
+    except model.Refused:
+        n, k = 3, 0
+    rooms = [max(n + rng.choice([0, 0, 0, 0, 0, 1, 3, -1 if rng.random() < 0.2 else 0]), 0) for _ in range(3)]
+    keys = max(k + rng.choice([0, 0, 0, 0, 7, 40, -1]), 0)
+    rooms = [min(r, 1100) for r in rooms]
+    number, place, tokens, key_bytes = model.write(code, min(rooms), keys)
+    parts = [code, words(*rooms, keys, number, place, len(tokens), key_bytes), bytes(t[0] for t in tokens)]
+    parts += [words(*[t[1] if t[0] in (NUM, BYTES8) else 0 for t in tokens]), b"".join(t[1] for t in tokens if t[0] == BYTES32)]
+    cases.add(3, number, parts)
+
+
+# ---- Decode
+
+def records(tokens):
+    """Records of tokens: keys in any order with other bytes between, and anything in the unused fields."""
+    kinds, numbers, places, keys = [], [], [], b""
+    order = [i for i, t in enumerate(tokens) if t[0] == BYTES32]
+    rng.shuffle(order)
+    at = {}
+    for i in order:
+        keys += rng.randbytes(rng.choice([0, 0, 1, 5]))
+        at[i] = len(keys)
+        keys += tokens[i][1]
+    for i, t in enumerate(tokens):
+        kinds.append(t[0])
+        numbers.append(t[1] if t[0] in (NUM, BYTES8) else rng.choice([0, 0, rng.randrange(2**64)]))
+        places.append(at[i] if t[0] == BYTES32 else rng.choice([0, 0, rng.randrange(2**32)]))
+    return kinds, numbers, places, keys
+
+
+def decode(kinds, numbers, places, keys, room=None):
+    room = rng.choice([MAX_CODE, MAX_CODE, MAX_CODE, MAX_CODE + 5]) if room is None else room
+    number, place, code, start = model.decode(kinds, numbers, places, keys, room)
+    parts = [bytes(kinds), words(*numbers), struct.pack("<%dI" % len(places), *places), keys, words(room, number, place, len(code), start), code]
+    cases.add(4, number, parts)
+
+
+def token():
+    k = rng.randrange(36)
+    return (NUM, rng.choice([1, 1, 0, 2])) if k == NUM else (BYTES8, rng.randrange(9)) if k == BYTES8 else (BYTES32, rng.randbytes(32)) if k == BYTES32 else (k,)
+
+
+def small(t):
+    """The condition, with index constants that have a form."""
+    return t if all(k[0] != NUM or k[1] < 2**32 for k in form(t)) else (48, const(5), const(6))
+
+
+def altered(tokens):
+    ts = list(tokens)
+    for _ in range(rng.randrange(1, 3)):
+        at = rng.randrange(len(ts) + 1)
+        r = rng.random()
+        if r < 0.4 and at < len(ts):
+            ts[at] = token()
+        elif r < 0.6:
+            del ts[at : at + 1]
+        elif r < 0.8:
+            ts.insert(at, token())
+        else:
+            ts = ts[at:] or [token()]
+    return ts
+
+
+def unsound(kinds, numbers, places, keys):
+    i = rng.randrange(len(kinds))
+    r = rng.randrange(5)
+    if r == 0:
+        kinds[i] = rng.choice([36, 37, 255])
+    elif r == 1:
+        kinds[i], numbers[i] = NUM, rng.choice([2**32, 2**64 - 1])
+    elif r == 2:
+        kinds[i], places[i] = BYTES32, rng.choice([len(keys), 2**32 - 1, max(len(keys) - 31, 0)])
+    elif r == 3:
+        del numbers[i:]
+    else:
+        del places[i:]
+    return kinds, numbers, places, keys
+
+
+def decodings():
+    forms = [form(small(condition())) for _ in range(900)]
+    for f in forms:
+        decode(*records(f))
+    for f in forms[:400]:  # strangers before the tail are passed over
+        decode(*records([token() for _ in range(rng.randrange(1, 6))] + f))
+    for f in forms[:700]:
+        decode(*records(altered(f)))
+    for f in forms[:250]:
+        decode(*unsound(*records([token() for _ in range(rng.randrange(3))] + f)))
+    for f in forms[:30]:
+        decode(*records(f), room=rng.choice([0, 1, MAX_CODE - 1]))
+    for _ in range(500):  # short lists
+        decode(*records([token() for _ in range(rng.randrange(7))]))
+    b8 = lambda n: (BYTES8, n)
+    for ts in (  # document 01's examples 9 to 11, and readings of it
+        [(35,), b8(5), b8(6), (14,)], [], [(14,)], [(4,), (22,), (1, 1), (14,), (15,), b8(9), (14,)], [b8(1), (21,), b8(2), (14,)],
+        [b8(7), b8(2), (10,), (1, 1), (14,), (15,), (16,), b8(3), (14,)], [b8(7), b8(2), (10,), (1, 1), (14,), (15,), (17,), b8(3), (14,)],
+        [(1, 2), (1, 3), (7,), (9,), (1, 1), (14,), (15,), (8,), (22,), (1, 1), (14,), (15,), b8(3), (14,)],
+        [(1, 2), (7,), (1, 3), (7,), (9,), (1, 1), (14,), (15,), (8,), (22,), (1, 1), (14,), (15,), b8(3), (14,)],
+    ):
+        decode(*records(ts))
+    for which in (4, 5):
+        for _ in range(12):
+            decode(*records(form(rule_broken(which))))
+    for n in (MAX_TOKENS, MAX_TOKENS - 1):
+        for t in sized(n):
+            decode(*records(form(t)))
+    for _ in range(12):
+        decode(*records([token() for _ in range(MAX_TOKENS + 1 + rng.randrange(3))]))
+
+
+# ---- the smallest example of each refusal, as docs/OPERATORS.md tells it
+
+def examples():
+    five, nine = const(5), const(9)
+    eq = lambda x: code_of((48, x, five))
+    at = lambda c, i: eq((c, i))
+    one = [([7], [1]), ([8], [1]), ([0], [0]), ([0], [0])]
+    hidden = [([7], [0]), ([8], [0]), ([0], [0]), ([0], [0])]
+    none = lambda code, lists=one, current=0, lent=(b"", []), room=112: evaluate(code, lists, current, lent, room)
+    key = bytes(range(1, 33))
+    priced = eq((32, key, 5))
+    elements = lambda *es: (b"".join(es), [sum(map(len, es[: k + 1])) for k in range(len(es))])
+    price, late, sig = (9).to_bytes(8, "little"), (6).to_bytes(8, "little"), bytes(64)
+    told = (
+        (1, bytes(9217)), (2, b""), (3, code_of((48, inverts(1022, five), five))), (4, eq((33, key, 5))), (5, eq((22, five, (32, key, 5)))),
+    )
+    for number, code in told:
+        assert model.check(code)[0] == number
+        check(code)
+    write(at(18, (1, 2**32)))
+    assert model.write(at(18, (1, 2**32)), 9, 9)[0] == 6
+    wanted = [
+        (7, none(priced, room=111)), (8, none(eq(five), [([7], []), ([8], [1]), ([0], [0]), ([0], [0])])), (12, none(eq(five), lent=(b"", [1]))),
+        (20, none(at(18, (1, 1)))), (21, none(at(18, (1, 0)), hidden)), (22, none(at(19, (1, 1)))), (23, none(at(19, (1, 0)), hidden)),
+        (24, none(at(20, (1, 1)))), (25, none(at(20, (1, 0)))), (26, none(at(21, (1, 0)))),
+        (27, none(eq((22, const(GREATEST), const(1))))), (28, none(eq((23, const(LEAST), const(1))))), (29, none(eq((24, const(GREATEST), const(2))))),
+        (30, none(eq((25, nine, const(0))))), (31, none(eq((26, nine, const(0))))), (32, none(eq((31, const(LEAST))))),
+        (33, none(priced)), (34, none(priced, lent=elements(b"1234567"))), (35, none(priced, lent=elements(price))),
+        (36, none(priced, lent=elements(b"1234567", price))), (37, none(priced, lent=elements(price, price))),
+        (38, none(priced, lent=elements(bytes(63), late, price))), (39, none(priced, lent=elements(sig, late, price))),
+        (40, none(priced, lent=elements(sig, bytes(8), bytes([0] * 7 + [128])))), (41, none(at(18, (4, (2,), (1, 1))))),
+    ]
+    assert all(number == got for number, got in wanted), wanted
+    b8 = (BYTES8, 5)
+    for number, kinds in ((9, [36]), (10, [0] * 1025), (11, [14])):
+        assert model.decode(kinds, [0] * len(kinds), [0] * len(kinds), b"", MAX_CODE)[0] == number
+        decode(kinds, [0] * len(kinds), [0] * len(kinds), b"")
+    decode(*records([b8, b8, (14,)]))
+
+
+# ---- what the published Rust answered: published.txt, printed by `compare sample 7 400` (tests/compare), the longest lines left out
+
+def unhex(s):
+    return b"" if s in "-." else bytes.fromhex(s)
+
+
+def listed(s, of):
+    return [] if s == "-" else [of(x) for x in s.split(",")]
+
+
+def token_of(s):
+    kind, _, data = s.partition(":")
+    k, b = int(kind), unhex(data or "-")
+    return (k, model.word(b)) if k in (NUM, BYTES8) else (k, b) if k == BYTES32 else (k,)
+
+
+def add_evaluated(code, at, spent, outs, issued, reissued, witness, answer):
+    parts = [code]
+    for s in (spent, outs, issued, reissued):
+        parts += [words(*listed(s, lambda x: 0 if x == "x" else int(x))), bytes(listed(s, lambda x: x != "x"))]
+    elements = listed(witness, unhex)
+    ends = [sum(map(len, elements[: k + 1])) for k in range(len(elements))]
+    number, first, second, verdict, checks, left, listing = answer.split(" ") if " " in answer else (answer, 0, 0, 0, 0, len(ends), "-")
+    parts += [b"".join(elements), struct.pack("<%dI" % len(ends), *ends)]
+    parts += [words(int(at), 112 * 102, int(number), int(verdict), int(first), int(second), int(checks), int(left)), unhex(listing)]
+    cases.add(2, int(number), parts)
+
+
+def add_written(code, answer):
+    tokens = [] if answer in ("4", "5") else listed(answer, token_of)
+    keys = [t[1] for t in tokens if t[0] == BYTES32]
+    number = 0 if tokens else int(answer)
+    parts = [code, words(1030, 1030, 1030, 32 * 102, number, 0, len(tokens), 32 * len(keys)), bytes(t[0] for t in tokens)]
+    cases.add(3, number, parts + [words(*[t[1] if t[0] in (NUM, BYTES8) else 0 for t in tokens]), b"".join(keys)])
+
+
+def add_decoded(tokens, answer):
+    kinds, numbers, places, keys = records(tokens)
+    start, code = (0, b"") if answer == "11" else (int(answer.split(" ")[0]), unhex(answer.split(" ")[1]))
+    parts = [bytes(kinds), words(*numbers), struct.pack("<%dI" % len(places), *places), keys]
+    cases.add(4, 0 if code else 11, parts + [words(MAX_CODE, 0 if code else 11, 0, len(code), start), code])
+
+
+def published(path):
+    for line in open(path):
+        case, _, answer = line.strip().partition(" => ")
+        f = case.split(" ")
+        if f[0] == "C":
+            cases.add(1, int(answer), [unhex(f[1]), words(int(answer), 0)])
+        elif f[0] == "E":
+            add_evaluated(unhex(f[1]), *f[2:], answer)
+        elif f[0] == "W":
+            add_written(unhex(f[1]), answer)
+        else:
+            add_decoded(listed(f[1], token_of), answer)
+
+
+def main():
+    published(os.path.join(os.path.dirname(os.path.abspath(__file__)), "published.txt"))
+    examples()
+    for c in codes():
+        check(c)
+    evaluations()
+    for c in codes():
+        write(c)
+    for _ in range(900):
+        write(code_of(condition(3)))
+    for n in (2**32 - 1, 2**32):
+        for _ in range(10):
+            write(code_of((48, (rng.choice([18, 19]), (rng.choice([3, 5]), (2,), (1, n))), const(5))))
+    decodings()
+    with open(sys.argv[1], "wb") as f:
+        f.write(b"".join(cases.out))
+    for call, name in enumerate(["Check", "Evaluate", "Write", "Decode"], 1):
+        print(name, {n: c for (k, n), c in sorted(cases.seen.items()) if k == call})
+    print(len(cases.out), "cases", sum(map(len, cases.out)), "bytes")
+
+
+sys.setrecursionlimit(20000)
+threading.stack_size(512 << 20)
+thread = threading.Thread(target=main)
+thread.start()
+thread.join()
