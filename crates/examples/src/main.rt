@@ -4,7 +4,6 @@ mod print;
 use num64::bits;
 use num64::write_le64;
 use print::text;
-use semantics::MAX_CODE;
 
 const LEAST: i64 = -0x7fff_ffff_ffff_ffff - 1;
 
@@ -83,7 +82,7 @@ fn write(code: &[u8]) {
 
 // Tokens that carry no key.
 fn decode(kinds: &[u8], numbers: &[u64]) {
-    let mut code = [0u8; MAX_CODE];
+    let mut code = io::large_buffer();
     let answer = decoder::decode(kinds, numbers, &[0; 7], &[], &mut code);
     print::decoded(answer, code[0]);
 }

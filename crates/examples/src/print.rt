@@ -77,46 +77,19 @@ pub fn evaluated(answer: Evaluated) {
     }
 }
 
-// The source's name of a kind of token.
+// The source's name of a kind of token, for those that are shown; else its number.
 fn kind_name(kind: u8) {
     match kind {
-        0 => text(b"Other"),
         1 => text(b"Num"),
         2 => text(b"Bytes8"),
-        3 => text(b"Bytes32"),
         4 => text(b"CurrInp"),
-        5 => text(b"Add"),
-        6 => text(b"Sub"),
         7 => text(b"ScriptNumToLe64"),
         8 => text(b"Le64ToScriptNum"),
         9 => text(b"Mul64"),
-        10 => text(b"Div64"),
-        11 => text(b"Add64"),
-        12 => text(b"Sub64"),
-        13 => text(b"Neg64"),
         14 => text(b"Equal"),
         15 => text(b"Verify"),
-        16 => text(b"Nip"),
-        17 => text(b"Drop"),
-        18 => text(b"And"),
-        19 => text(b"Or"),
-        20 => text(b"Xor"),
-        21 => text(b"Invert"),
-        22 => text(b"InpValue"),
         23 => text(b"OutValue"),
-        24 => text(b"InpIssue"),
-        25 => text(b"Dup2"),
-        26 => text(b"ToAltStack"),
-        27 => text(b"FromAltStack"),
-        28 => text(b"Geq64"),
-        29 => text(b"Ge64"),
-        30 => text(b"Leq64"),
-        31 => text(b"Le64"),
-        32 => text(b"Cat"),
-        33 => text(b"Sha256"),
-        34 => text(b"CheckSigFromStackVerify"),
-        35 => text(b"Swap"),
-        _ => text(b"unsound"),
+        _ => number(kind as u64),
     }
 }
 
