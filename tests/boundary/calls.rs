@@ -1,6 +1,6 @@
 //! Calls the archive from Rust, on good and bad input.
 mod covenant;
-use covenant::List;
+use covenant::{List, Record};
 
 fn main() {
     let five = [16, 5, 0, 0, 0, 0, 0, 0, 0, 16, 5, 0, 0, 0, 0, 0, 0, 0, 48];
@@ -25,5 +25,21 @@ fn main() {
     assert_eq!((d.number, d.code_bytes, d.start), (0, 19, 0));
     assert!(code[..19] == five && code[19..].iter().all(|b| *b == 0xa5));
     assert_eq!(covenant::decode(&kinds, &numbers, &places, &[], &mut code).number, 11);
+
+    let unset = Record { kind: 9, number: 9, place: 9 };
+    let token = |kind, number| Record { kind, number, place: 0 };
+    let mut records = [unset; 4];
+    assert_eq!(covenant::write_records(&five, &mut records[..2], &mut keys).number, 7);
+    assert_eq!((records, keys), ([unset; 4], [9]));
+    let w = covenant::write_records(&five, &mut records, &mut keys);
+    assert_eq!((w.number, w.records, w.key_bytes), (0, 3, 0));
+    assert_eq!((records, keys), ([token(2, 5), token(2, 5), token(14, 0), unset], [9]));
+    code.fill(0xa5);
+    assert_eq!(covenant::decode_records(&records, &[], &mut code).number, 11);
+    assert_eq!(covenant::decode_records(&records[..3], &[], &mut code[..9215]).number, 7);
+    assert!(code.iter().all(|b| *b == 0xa5));
+    let d = covenant::decode_records(&records[..3], &[], &mut code);
+    assert_eq!((d.number, d.code_bytes, d.start), (0, 19, 0));
+    assert!(code[..19] == five && code[19..].iter().all(|b| *b == 0xa5));
     println!("boundary: the calls from Rust agree");
 }

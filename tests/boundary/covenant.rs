@@ -37,6 +37,15 @@ pub struct Decoded {
     pub start: u64,
 }
 
+/// One token: 24 bytes.
+#[repr(C)]
+#[derive(Clone, Copy, Debug, PartialEq)]
+pub struct Record {
+    pub kind: u8,
+    pub number: u64,
+    pub place: u32,
+}
+
 mod archive {
     use super::*;
     #[link(name = "covenant", kind = "static")]
@@ -53,6 +62,8 @@ mod archive {
         pub fn covenant_decode(
             kinds: *const u8, n: usize, numbers: *const u64, n: usize, places: *const u32, n: usize, keys: *const u8, n: usize, code: *mut u8, n: usize,
         ) -> Decoded;
+        pub fn covenant_write_records(code: *const u8, n: usize, records: *mut Record, n: usize, keys: *mut u8, n: usize) -> Written;
+        pub fn covenant_decode_records(records: *const Record, n: usize, keys: *const u8, n: usize, code: *mut u8, n: usize) -> Decoded;
     }
 }
 
@@ -95,4 +106,12 @@ pub fn decode(kinds: &[u8], numbers: &[u64], places: &[u32], keys: &[u8], code: 
             code.len(),
         )
     }
+}
+
+pub fn write_records(code: &[u8], records: &mut [Record], keys: &mut [u8]) -> Written {
+    unsafe { archive::covenant_write_records(code.as_ptr(), code.len(), records.as_mut_ptr(), records.len(), keys.as_mut_ptr(), keys.len()) }
+}
+
+pub fn decode_records(records: &[Record], keys: &[u8], code: &mut [u8]) -> Decoded {
+    unsafe { archive::covenant_decode_records(records.as_ptr(), records.len(), keys.as_ptr(), keys.len(), code.as_mut_ptr(), code.len()) }
 }
