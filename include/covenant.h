@@ -24,9 +24,11 @@ typedef struct { uint32_t number; uint64_t place; uint64_t code_bytes, start; } 
 /* One token: 24 bytes. `number` counts for kinds 1 and 2, `place` (in the key bytes) for kind 3. */
 typedef struct { uint8_t kind; uint64_t number; uint32_t place; } covenant_record;
 
-/* Sizes that are always enough: of condition code, of token records, of key bytes and of check bytes. */
+/* Sizes that are always enough: bytes of condition code, token records, and oracle terminals, of 32 key bytes and a check of 112 bytes each. A condition that passes has
+ * at most one PriceOracle1, of 10 tokens; each further terminal takes 13, with a token more for the operation that joins it. */
 #define COVENANT_MAX_CODE 9216
 #define COVENANT_MAX_TOKENS 1024
+#define COVENANT_MAX_ORACLES 73
 
 /* Whether bytes are condition code within the bounds that keeps the oracle rule. Refusals 1 to 5. Writes nothing. */
 covenant_checked covenant_check(const uint8_t *code, size_t code_count);
