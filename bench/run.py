@@ -78,11 +78,11 @@ def memory(rows):
     worst = [max(r[1][c] for r in rows.values()) for c in range(6)]
     lent = {
         "Check": [("code", 9216)],
-        "Evaluate": [("code", 9216), ("checks of 102 oracle terminals", 112 * 102), ("their witness and its ends", 102 * (80 + 12)), ("four lists of 256 slots", 4 * 256 * 9)],
-        "Write": [("code", 9216), ("1,024 records in three slices", 1024 * 13), ("102 keys", 102 * 32)],
-        "Decode": [("1,024 records in three slices", 1024 * 13), ("102 keys", 102 * 32), ("code", 9216)],
-        "Write, records": [("code", 9216), ("1,024 records", 1024 * 24), ("102 keys", 102 * 32)],
-        "Decode, records": [("1,024 records", 1024 * 24), ("102 keys", 102 * 32), ("code", 9216)],
+        "Evaluate": [("code", 9216), ("checks of 73 oracle terminals", 112 * 73), ("their witness and its ends", 73 * (80 + 12)), ("four lists of 256 slots", 4 * 256 * 9)],
+        "Write": [("code", 9216), ("1,024 records in three slices", 1024 * 13), ("73 keys", 73 * 32)],
+        "Decode": [("1,024 records in three slices", 1024 * 13), ("73 keys", 73 * 32), ("code", 9216)],
+        "Write, records": [("code", 9216), ("1,024 records", 1024 * 24), ("73 keys", 73 * 32)],
+        "Decode, records": [("1,024 records", 1024 * 24), ("73 keys", 73 * 32), ("code", 9216)],
     }
     out = ["# Memory", "", "Measured by `make bench` on x86-64; the unit has 512 KiB for everything. Figures are bytes.", ""]
     out += ["The archive has %d bytes of code and %d of constants, and no data of its own: nothing is allocated or kept between calls." % (text, rodata), ""]
