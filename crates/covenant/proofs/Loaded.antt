@@ -8,7 +8,7 @@ use borrow.Author.Tests.{le-leb, leb-false, leb-true}
 use lib.ListN.{length, take, drop, length-map}
 use lib.Seq.{length-take-le, take-at, take-length}
 use lib.Dec.{leb}
-use Rattle.num64.specs.Bytes.{Bytes}
+use Rattle.slices.specs.Bytes.{Bytes}
 use Rattle.semantics.specs.Code.{maxTokens}
 use Rattle.semantics.specs.Decode.{Decoding, decoded}
 use Rattle.semantics.specs.Meaning.{CallUnambiguous}

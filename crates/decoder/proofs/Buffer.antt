@@ -6,8 +6,8 @@ use native.Mathlib.Nat.{sub-zero}
 use native.Mathlib.Omega.{arith}
 use lib.ListN.{length, take, drop, set, length-append, length-drop, take-append-drop}
 use lib.Seq.{drop-at, drop-drop, length-take-le, paste, set-split, take-at}
-use Rattle.num64.specs.Bytes.{littleEndian}
-use Rattle.num64.proofs.Bytes.{length-littleEndian}
+use Rattle.slices.specs.Bytes.{littleEndian}
+use Rattle.slices.proofs.Bytes.{length-littleEndian}
 use Rattle.decoder.specs.Pieces.{put}
 
 -- bytes written from a place on

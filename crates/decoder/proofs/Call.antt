@@ -7,7 +7,7 @@ use mathlib.Core.List.{List, _++_, reverse}
 use native.Mathlib.Omega.{arith}
 use borrow.Author.Tests.{le-leb, lt-leb}
 use lib.ListN.{length, length-append, length-reverse}
-use Rattle.num64.specs.Bytes.{All, Bytes}
+use Rattle.slices.specs.Bytes.{All, Bytes}
 use Rattle.semantics.specs.Operations.{Token}
 use Rattle.semantics.specs.declared.Decoded.{Decoded}
 use Rattle.semantics.specs.declared.Refusal.{Refusal}

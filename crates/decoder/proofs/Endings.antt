@@ -9,7 +9,7 @@ use native.Mathlib.Omega.{arith}
 use borrow.Author.Tests.{eqb-true, ltb-true, ne-eqb}
 use lib.Dec.{eqb, ltb}
 use lib.ListN.{length, getD, drop, List·getD-map}
-use Rattle.num64.specs.Bytes.{All}
+use Rattle.slices.specs.Bytes.{All}
 use Rattle.semantics.specs.Operations.{Token, op, num, bytes8, bytes32, cmpOps, cmpRow, idxOps}
 use Rattle.semantics.specs.declared.AmountList.{AmountList}
 use Rattle.semantics.specs.declared.BinOp.{BinOp}

@@ -9,8 +9,8 @@ use borrow.Author.Tests.{eq-eqb, eqb-true, ne-eqb}
 use lib.Dec.{eqb}
 use lib.ListN.{length, getD, drop, length-append, length-drop, List·getD-append, List·getD-map}
 use lib.Seq.{length-take-le}
-use Rattle.num64.specs.Bytes.{littleEndian}
-use Rattle.num64.proofs.Bytes.{length-littleEndian}
+use Rattle.slices.specs.Bytes.{littleEndian}
+use Rattle.slices.proofs.Bytes.{length-littleEndian}
 use Rattle.semantics.specs.Operations.{Token, op, bytes32, bytes8, num}
 use Rattle.semantics.specs.declared.AmountList.{AmountList}
 use Rattle.semantics.specs.declared.BinOp.{BinOp}

@@ -6,7 +6,7 @@ use mathlib.Core.List.{List, _++_, reverse}
 use native.Mathlib.Omega.{arith}
 use lib.ListN.{length, drop, length-append}
 use lib.Seq.{drop-append-seam}
-use Rattle.num64.specs.Bytes.{All}
+use Rattle.slices.specs.Bytes.{All}
 use Rattle.semantics.specs.Operations.{Token}
 use Rattle.semantics.specs.declared.CmpOp.{CmpOp}
 use Rattle.semantics.specs.declared.IdxOp.{IdxOp}

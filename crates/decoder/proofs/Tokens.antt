@@ -6,7 +6,7 @@ use native.Mathlib.Nat.{add-zero, add-suc, suc-add, sub-zero, suc-sub-suc, zero-
 use native.Mathlib.Numerals.{sub-one}
 use native.Mathlib.Omega.{arith}
 use lib.ListN.{length, drop, getD, List·getD-eq-default}
-use Rattle.num64.specs.Bytes.{All}
+use Rattle.slices.specs.Bytes.{All}
 use Rattle.semantics.specs.Operations.{Token}
 use Rattle.semantics.specs.Records.{Records, tokenAt, tokenOf, tokens, tokensFrom}
 use Rattle.decoder.specs.Before.{before}

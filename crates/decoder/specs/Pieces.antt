@@ -5,7 +5,7 @@ use mathlib.Core.Bool.{Bool, false, _&&_, _||_, not, cond}
 use mathlib.Core.List.{List, [], _∷_, _++_}
 use lib.ListN.{length, getD, take, drop}
 use lib.Dec.{eqb}
-use Rattle.num64.specs.Bytes.{littleEndian}
+use Rattle.slices.specs.Bytes.{littleEndian}
 use Rattle.semantics.specs.Operations.{Token}
 use Rattle.semantics.specs.FromTokens.{Found, found, nothing}
 use Rattle.semantics.specs.Records.{Records, keyOf, tokenAt}

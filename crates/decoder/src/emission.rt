@@ -10,8 +10,7 @@ ghost use mathlib.Core.List.{List, [], _∷_, _++_};
 ghost use Prim.Native.Nat.{ℕ, _+_, _-_, _≤_, _<_};
 ghost use lib.ListN.{length, take, drop};
 ghost use lib.Dec.{eqb};
-ghost use lib.Seq.{paste};
-ghost use Rattle.num64.specs.Bytes.{littleEndian};
+ghost use Rattle.slices.specs.Bytes.{littleEndian};
 ghost use Rattle.semantics.specs.Code.{maxTokens};
 ghost use Rattle.semantics.specs.Records.{recordsOf};
 ghost use Rattle.decoder.specs.Before.{Numbered, Whole, tokensBefore};
@@ -118,18 +117,6 @@ pub fn judge(kinds: &[u8], numbers: &[u64], start: usize) -> Judged
     Judged::Kept(bytes)
 }
 
-// The 32 bytes of a key go to `to`, from `off` on.
-fn copy_key(keys: &[u8], place: usize, to: &mut [u8], off: usize)
-    requires { ⌜ (place + 32 ≤ length (now keys)) × (off + 32 ≤ length (now to)) ⌝ }
-    ensures { λ _. ⌜ now (to .exit) ≡ paste (now (to .entry)) off (drop place (now (keys .entry))) 32 ⌝ }
-{
-    let mut i = 0;
-    while i < 32 {
-        to[off + i] = keys[place + i];
-        i += 1;
-    }
-}
-
 fn wide(x: u32) -> usize
     ensures { λ r. ⌜ r ≡ x ⌝ }
 {
@@ -142,7 +129,7 @@ fn put_number(code: &mut [u8], at: usize, command: u8, number: u64)
     ensures { λ _. ⌜ now (code .exit) ≡ put (now (code .entry)) at (command ∷ littleEndian 8 number) ⌝ }
 {
     code[at - 9] = command;
-    num64::write_le64(code, at - 8, number);
+    slices::write_le64(code, at - 8, number);
 }
 
 // A command with a key of 32 bytes and a time of eight, which end at `at`.
@@ -152,8 +139,8 @@ fn put_oracle(code: &mut [u8], at: usize, command: u8, keys: &[u8], place: usize
         (command ∷ take 32 (drop place (now (keys .entry))) ++ littleEndian 8 time) ⌝ }
 {
     code[at - 41] = command;
-    copy_key(keys, place, code, at - 40);
-    num64::write_le64(code, at - 8, time);
+    slices::copy(keys, place, code, at - 40, 32);
+    slices::write_le64(code, at - 8, time);
 }
 
 // The bytes of a piece, which end at `at`.

@@ -10,7 +10,7 @@ use lib.Dec.{eqb, leb}
 use lib.IntN.{ℤ, pos}
 use lib.ListN.{length, take, drop, getD, length-drop, take-append-drop}
 use lib.Seq.{drop-drop, length-take-le}
-use Rattle.num64.specs.Bytes.{bytesValue}
+use Rattle.slices.specs.Bytes.{bytesValue}
 use Rattle.num64.specs.Steps.{inRange}
 use Rattle.semantics.specs.declared.AmountList.{AmountList}
 use Rattle.semantics.specs.declared.Command.{Command}

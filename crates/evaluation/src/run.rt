@@ -123,13 +123,13 @@ fn step(
     match command {
         Command::Unknown => Turn::On(values, indexes),
         Command::IdxConst => {
-            let n = num64::read_le64(code, at);
+            let n = slices::read_le64(code, at);
             push_index(idxs, Step::Value(n), values, indexes)
         }
         Command::CurrIdx => push_index(idxs, Step::Value(current), values, indexes),
         Command::Index(op) => step_index(op, idxs, values, indexes),
         Command::Const => {
-            let z = num64::signed(num64::read_le64(code, at));
+            let z = num64::signed(slices::read_le64(code, at));
             push_value(vals, Value::Number(z), values, indexes)
         }
         Command::CurrInputIdx => step_lookup(

@@ -2,8 +2,8 @@
 mod print;
 
 use num64::bits;
-use num64::write_le64;
 use print::text;
+use slices::write_le64;
 
 const LEAST: i64 = -0x7fff_ffff_ffff_ffff - 1;
 

@@ -1,14 +1,11 @@
 // 64-bit arithmetic: each contract is an equation with a definition of specs/ over whole numbers.
 ghost use mathlib.Core.Path.{_≡_};
 ghost use Prim.Native.Nat.{_+_, _*_, _<_, _≤_, _^_};
-ghost use mathlib.Core.List.{_++_};
-ghost use lib.ListN.{length, take, drop};
 ghost use lib.IntN.{pos, negsuc, natAbs, negℤ, _+ℤ_};
 ghost use lib.Signed.{mag, shrZ, ltZ, leZ};
 ghost use Rattle.num64.specs.Exact.{number, signOf, restOf, signedOf, bitsOf, eqZ};
 ghost use Rattle.num64.specs.Exact.{checkedAdd, checkedSub, checkedMul, checkedNeg, checkedDiv, checkedRem, fitted};
 ghost use Rattle.num64.specs.Exact.{andOf, orOf, xorOf, invertOf};
-ghost use Rattle.num64.specs.Bytes.{Read64, littleEndian};
 ghost use Rattle.num64.specs.Steps.{idxAdd, idxSub, idxMul, idxDiv, stepped};
 
 const MAX: u64 = 0xffff_ffff_ffff_ffff;
@@ -317,39 +314,5 @@ pub fn step_div(x: u64, y: u64) -> Step
         Step::Overflow
     } else {
         Step::Value(x / y)
-    }
-}
-
-// ---- eight bytes, the lowest first
-
-fn wide(x: u8) -> u64
-    ensures { λ r. ⌜ (r ≡ x) × (r < 256) ⌝ }
-{
-    x as u64
-}
-
-pub fn read_le64(s: &[u8], at: usize) -> u64
-    requires { ⌜ at + 8 ≤ length (now s) ⌝ }
-    ensures { λ r. ⌜ Read64 (now (s .entry)) at r ⌝ }
-{
-    let mut n: u64 = 0;
-    let mut k: usize = 0;
-    while k < 8 {
-        n = n * 256 + wide(s[at + (7 - k)]);
-        k += 1;
-    }
-    n
-}
-
-pub fn write_le64(s: &mut [u8], at: usize, n: u64)
-    requires { ⌜ at + 8 ≤ length (now s) ⌝ }
-    ensures { λ r. ⌜ now (s .exit) ≡ take at (now (s .entry)) ++ littleEndian 8 n ++ drop (at + 8) (now (s .entry)) ⌝ }
-{
-    let mut rest = n;
-    let mut k: usize = 0;
-    while k < 8 {
-        s[at + k] = (rest % 256) as u8;
-        rest = rest / 256;
-        k += 1;
     }
 }

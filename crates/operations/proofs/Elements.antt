@@ -8,7 +8,7 @@ use borrow.Author.Tests.{eqb-true, le-leb, leb-true}
 use lib.Dec.{eqb, leb}
 use lib.ListN.{length, getD, take, drop, length-reverse}
 use lib.Seq.{slice, length-slice, length-take-le}
-use Rattle.num64.proofs.Bytes.{drop-take}
+use Rattle.slices.proofs.Bytes.{drop-take}
 use Rattle.semantics.specs.declared.Refusal.{Refusal}
 use Rattle.semantics.specs.Evaluate.{elements, endsSound}
 use Rattle.semantics.specs.Evaluation.{Outcome, err, ok, pop}

@@ -9,8 +9,8 @@ use lib.Dec.{ltb}
 use lib.IntN.{ℤ, pos}
 use lib.ListN.{length, take, drop, length-append, length-take, length-drop, take-append-drop}
 use lib.Seq.{drop-at, drop-drop, length-paste-head, length-take-le, paste, take-at}
-use Rattle.num64.specs.Bytes.{Read64, bytesValue}
-use Rattle.num64.proofs.Bytes.{drop-take}
+use Rattle.slices.specs.Bytes.{Read64, bytesValue}
+use Rattle.slices.proofs.Bytes.{drop-take}
 use Rattle.semantics.specs.declared.Refusal.{Refusal}
 use Rattle.semantics.specs.declared.Value.{Value}
 use Rattle.semantics.specs.Evaluate.{endsSound}

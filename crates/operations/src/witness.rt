@@ -6,7 +6,6 @@ ghost use mathlib.Core.Path.{_≡_};
 ghost use mathlib.Core.List.{_++_};
 ghost use Prim.Native.Nat.{_+_, _-_, _*_, _≤_, _<_};
 ghost use lib.ListN.{length, take, drop};
-ghost use lib.Seq.{paste};
 ghost use Rattle.semantics.specs.Evaluate.{endsSound};
 ghost use Rattle.semantics.specs.Evaluation.{oracle};
 ghost use Rattle.operations.specs.Elements.{fewer, popped, taken};
@@ -151,18 +150,6 @@ fn take(ends: &[u32], left: usize, width: usize, absent: Refusal, wrong: Refusal
 
 // ---- the check
 
-// n bytes of `from`, from `at` on, go to `to`, from `off` on.
-fn copy(from: &[u8], at: usize, to: &mut [u8], off: usize, n: usize)
-    requires { ⌜ (at + n ≤ length (now from)) × (off + n ≤ length (now to)) ⌝ }
-    ensures { λ _. ⌜ now (to .exit) ≡ paste (now (to .entry)) off (drop at (now (from .entry))) n ⌝ }
-{
-    let mut i = 0;
-    while i < n {
-        to[off + i] = from[at + i];
-        i += 1;
-    }
-}
-
 // Check number n: key and time of the terminal, price and signature of the witness.
 fn list_check(
     code: &[u8],
@@ -177,9 +164,9 @@ fn list_check(
     ensures { λ _. ⌜ now (out .exit) ≡ take (112 * n) (now (out .entry)) ++ checkOf (now (code .entry)) at (now (witness .entry)) price signature ++ drop (112 * n + 112) (now (out .entry)) ⌝ }
 {
     let off = 112 * n;
-    copy(code, at, out, off, 40);
-    copy(witness, price, out, off + 40, 8);
-    copy(witness, signature, out, off + 48, 64);
+    slices::copy(code, at, out, off, 40);
+    slices::copy(witness, price, out, off + 40, 8);
+    slices::copy(witness, signature, out, off + 48, 64);
 }
 
 // A price as a value: the numbers from 2^63 on have none.
@@ -211,7 +198,7 @@ fn judge(
     requires { ⌜ Asks (now code) at (now witness) (now ends) (now out) left checks × (price + 8 ≤ length (now witness)) × (time + 8 ≤ length (now witness)) × (signature + 64 ≤ length (now witness)) ⌝ }
     ensures { λ r. ⌜ Gives (afterSignature (keyAt (now (code .entry)) at) (timeAt (now (code .entry)) at) (take 8 (drop price (now (witness .entry)))) (take 8 (drop time (now (witness .entry)))) (take 64 (drop signature (now (witness .entry))))) (now (witness .entry)) (now (ends .entry)) (now (out .entry)) (now (out .exit)) left checks r ⌝ }
 {
-    if num64::read_le64(code, at + 32) < num64::read_le64(witness, time) {
+    if slices::read_le64(code, at + 32) < slices::read_le64(witness, time) {
         return Answered {
             value: Value::Refused(Refusal::TimestampInFuture),
             left,
@@ -220,7 +207,7 @@ fn judge(
     }
     list_check(code, at, witness, price, signature, out, checks);
     Answered {
-        value: price_value(num64::read_le64(witness, price)),
+        value: price_value(slices::read_le64(witness, price)),
         left,
         checks: checks + 1,
     }

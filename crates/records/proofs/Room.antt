@@ -7,7 +7,7 @@ use native.Mathlib.Omega.{arith}
 use borrow.Author.Tests.{leb-true, lt-leb}
 use lib.ListN.{length}
 use lib.Dec.{leb}
-use Rattle.num64.specs.Bytes.{Bytes}
+use Rattle.slices.specs.Bytes.{Bytes}
 use Rattle.semantics.specs.declared.Decoded.{Decoded}
 use Rattle.semantics.specs.declared.Refusal.{Refusal}
 use Rattle.semantics.specs.Check.{Condition, condition, firstOf, unless}

@@ -7,8 +7,8 @@ use native.Mathlib.Omega.{arith}
 use borrow.Author.Tests.{eqb-true}
 use lib.Dec.{eqb, leb}
 use lib.ListN.{length, length-drop, length-take, take, drop, take-append-drop}
-use Rattle.num64.specs.Bytes.{All, Bytes, bytesValue, littleEndian}
-use Rattle.num64.proofs.Bytes.{all-append, all-drop, all-getD, all-take, bytes-of-value, value-lt}
+use Rattle.slices.specs.Bytes.{All, Bytes, bytesValue, littleEndian}
+use Rattle.slices.proofs.Bytes.{all-append, all-drop, all-getD, all-take, bytes-of-value, value-lt}
 use Rattle.semantics.specs.Code.{Command, code, commandOf, commandRow, exprCode, idxCode}
 use Rattle.semantics.specs.Parse.{Instruction, Parsed, Waiting, Walk, built, finished, fold, index, instructions, lengths, nothing, parse, passes, treeStep, value}
 use Rattle.semantics.specs.Trees.{Arith, Expr, IdxExpr}

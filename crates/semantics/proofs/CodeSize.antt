@@ -4,7 +4,7 @@ use mathlib.Core.Path.{_≡_, ap}
 use mathlib.Core.List.{List}
 use native.Mathlib.Omega.{arith}
 use lib.ListN.{length, length-append}
-use Rattle.num64.proofs.Bytes.{length-littleEndian}
+use Rattle.slices.proofs.Bytes.{length-littleEndian}
 use Rattle.semantics.specs.Code.{code, exprCode, idxCode, maxCode, maxTokens}
 use Rattle.semantics.specs.Token.{Token, exprForm, form, idxForm}
 use Rattle.semantics.specs.Trees.{Arith, Expr, IdxExpr}

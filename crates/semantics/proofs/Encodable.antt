@@ -4,8 +4,8 @@ use mathlib.Core.Path.{_≡_}
 use mathlib.Core.List.{List, _++_}
 use native.Mathlib.Omega.{arith}
 use lib.ListN.{length}
-use Rattle.num64.specs.Bytes.{All, Bytes}
-use Rattle.num64.proofs.Bytes.{all-append, all-join, littleEndian-bytes}
+use Rattle.slices.specs.Bytes.{All, Bytes}
+use Rattle.slices.proofs.Bytes.{all-append, all-join, littleEndian-bytes}
 use Rattle.semantics.specs.Operations.{binRow, cmpRow, idxRow, listRow, unRow}
 use Rattle.semantics.specs.Trees.{IdxOp, AmountList, BinOp, UnOp, CmpOp, IdxExpr, Expr, Arith}
 use Rattle.semantics.specs.Code.{idxCode, exprCode, code}

@@ -10,8 +10,8 @@ use lib.Dec.{eqb, ltb}
 use borrow.Author.Needs.{needs}
 use borrow.Author.Tests.{lt-ltb, ltb-true, ne-eqb}
 use Rattle.semantics.specs.Operations.{binRow, cmpRow, idxRow, listRow, unRow}
-use Rattle.num64.proofs.Bytes.{all-join}
-use Rattle.num64.specs.Bytes.{All}
+use Rattle.slices.proofs.Bytes.{all-join}
+use Rattle.slices.specs.Bytes.{All}
 use Rattle.semantics.proofs.Encodable.{Encodable, ExprEncodable, OracleEncodable}
 use Rattle.semantics.proofs.Placing.{keysOf}
 use Rattle.semantics.proofs.Tests.{and-assoc, and-true}

@@ -5,8 +5,8 @@ use mathlib.Core.List.{List, [], _∷_, _++_, append-assoc}
 use native.Mathlib.Omega.{arith}
 use lib.ListN.{length, length-append, getD, take, drop, drop-of-length-le}
 use lib.Seq.{drop-cons, drop-drop}
-use Rattle.num64.specs.Bytes.{littleEndian}
-use Rattle.num64.proofs.Bytes.{length-littleEndian}
+use Rattle.slices.specs.Bytes.{littleEndian}
+use Rattle.slices.proofs.Bytes.{length-littleEndian}
 use Rattle.semantics.specs.Operations.{binRow, cmpRow, idxRow, listRow, unRow}
 use Rattle.semantics.specs.Code.{Command, code, commandOf, commandRow, exprCode, idxCode}
 use Rattle.semantics.specs.Parse.{Counts, Instruction, Walk, fold, instructions, walkStep, width}

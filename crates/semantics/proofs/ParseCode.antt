@@ -7,8 +7,8 @@ use native.Mathlib.Omega.{arith}
 use borrow.Author.Tests.{le-leb}
 use lib.ListN.{length}
 use lib.Seq.{take-at, drop-at}
-use Rattle.num64.specs.Bytes.{littleEndian}
-use Rattle.num64.proofs.Bytes.{length-littleEndian, value-of-bytes}
+use Rattle.slices.specs.Bytes.{littleEndian}
+use Rattle.slices.proofs.Bytes.{length-littleEndian, value-of-bytes}
 use Rattle.semantics.specs.Code.{Command, code, commandRow}
 use Rattle.semantics.specs.Parse.{Parsed, Waiting, Walk, built, finished, nothing, parse, treeStep}
 use Rattle.semantics.specs.Trees.{Arith, Expr, IdxExpr}

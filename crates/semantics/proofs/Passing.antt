@@ -8,7 +8,7 @@ use native.Mathlib.Omega.{arith}
 use borrow.Author.Tests.{leb-true}
 use lib.ListN.{length}
 use lib.Dec.{leb}
-use Rattle.num64.specs.Bytes.{Bytes}
+use Rattle.slices.specs.Bytes.{Bytes}
 use Rattle.semantics.specs.Check.{Checked, Condition, answered, condition, firstOf, judged, judgedParsed, passedUnless, unless}
 use Rattle.semantics.specs.Code.{code, maxCode, maxTokens}
 use Rattle.semantics.specs.Oracle.{oracleRule, oracles}

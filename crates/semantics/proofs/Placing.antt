@@ -10,8 +10,8 @@ use borrow.Author.Tests.{eq-eqb, ne-eqb}
 use lib.Dec.{eqb}
 use lib.ListN.{length, getD, take, drop, length-append, List·getD-append}
 use lib.Seq.{take-at, drop-at, getD-take, length-take-le, take-take}
-use Rattle.num64.specs.Bytes.{All}
-use Rattle.num64.proofs.Bytes.{all-getD}
+use Rattle.slices.specs.Bytes.{All}
+use Rattle.slices.proofs.Bytes.{all-getD}
 use Rattle.semantics.specs.Evaluate.{over}
 use Rattle.semantics.specs.Records.{Records}
 use Rattle.semantics.specs.Write.{KeysPlaced}

@@ -8,7 +8,7 @@ use lib.ListN.{getD, replicate}
 use lib.IntN.{ℤ}
 use Rattle.num64.specs.Exact.{bitsOf, checkedAdd, checkedSub, checkedMul}
 use Rattle.num64.specs.Steps.{idxAdd, idxSub, idxMul, idxDiv}
-use Rattle.num64.specs.Bytes.{bytesValue, littleEndian}
+use Rattle.slices.specs.Bytes.{bytesValue, littleEndian}
 use Rattle.semantics.specs.Check.{Checked, checked, condition, judged}
 use Rattle.semantics.specs.Code.{code, commandOf, exprCode, idxCode}
 use Rattle.semantics.specs.Decode.{Decoded, decode, decoded}

@@ -10,8 +10,8 @@ use native.Mathlib.Omega.{arith}
 use borrow.Author.Tests.{leb-true, ltb-true, ne-eqb}
 use lib.ListN.{length, getD, take, drop, length-take, length-drop, length-map, List·getD-append, List·getD-map}
 use lib.Dec.{eqb, leb, ltb}
-use Rattle.num64.specs.Bytes.{All, Bytes}
-use Rattle.num64.proofs.Bytes.{all-drop, all-getD, all-take}
+use Rattle.slices.specs.Bytes.{All, Bytes}
+use Rattle.slices.proofs.Bytes.{all-drop, all-getD, all-take}
 use Rattle.semantics.specs.Evaluate.{over}
 use Rattle.semantics.specs.Records.{Records, keyOf, soundAt, tokenAt, tokenOf, tokens, tokensFrom, unsound, unsoundFrom}
 use Rattle.semantics.specs.Token.{Sound, SoundAs, Token, op}

@@ -10,8 +10,8 @@ use borrow.Author.Tests.{le-leb, leb-true, lt-ltb, ne-eqb}
 use lib.Dec.{eqb, leb, ltb}
 use lib.ListN.{length, getD, take, drop, length-map, List·getD-map}
 use lib.Seq.{ext-getD, getD-take, length-take-le, take-at}
-use Rattle.num64.specs.Bytes.{All, Bytes}
-use Rattle.num64.proofs.Bytes.{all-getD}
+use Rattle.slices.specs.Bytes.{All, Bytes}
+use Rattle.slices.proofs.Bytes.{all-getD}
 use Rattle.semantics.specs.Check.{Condition, condition, firstOf, unless}
 use Rattle.semantics.specs.Code.{code, maxCode}
 use Rattle.semantics.specs.Decode.{Decoded, Reading, decode, decoded, decodedAs, reading, unlessRuled}

@@ -10,8 +10,8 @@ use lib.Seq.{take-at, drop-at}
 use lib.IntN.{ℤ, pos}
 use Rattle.num64.specs.Exact.{signedOf}
 use Rattle.num64.specs.Steps.{inRange}
-use Rattle.num64.specs.Bytes.{bytesValue, littleEndian}
-use Rattle.num64.proofs.Bytes.{value-of-bytes}
+use Rattle.slices.specs.Bytes.{bytesValue, littleEndian}
+use Rattle.slices.proofs.Bytes.{value-of-bytes}
 use Rattle.semantics.specs.Operations.{binRow, cmpRow, idxRow, unRow}
 use Rattle.semantics.specs.Code.{Command, code}
 use Rattle.semantics.specs.Evaluation.{Env, Outcome, State, err, eval, evalArith, index, lookedUp, ok, onward, optionThen, oracle, outcome}

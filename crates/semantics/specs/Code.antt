@@ -3,7 +3,7 @@ use Prim.Native.Nat.{ℕ, _*_}
 use mathlib.Core.Bool.{Bool, true, false, _&&_, cond}
 use mathlib.Core.List.{List, [], _∷_, _++_, map}
 use lib.Dec.{eqb, leb}
-use Rattle.num64.specs.Bytes.{littleEndian}
+use Rattle.slices.specs.Bytes.{littleEndian}
 use Rattle.semantics.specs.Operations.{idxRow, listRow, binRow, unRow, cmpRow, idxOps, amountLists, binOps, unOps, cmpOps}
 use Rattle.semantics.specs.Trees.{IdxExpr, Expr, Arith}
 pub use Rattle.semantics.specs.declared.Command.{Command}

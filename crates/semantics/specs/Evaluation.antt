@@ -8,7 +8,7 @@ use lib.Dec.{eqb, ltb}
 use lib.IntN.{ℤ, pos, negsuc}
 use Rattle.num64.specs.Exact.{signedOf}
 use Rattle.num64.specs.Steps.{inRange}
-use Rattle.num64.specs.Bytes.{littleEndian, bytesValue}
+use Rattle.slices.specs.Bytes.{littleEndian, bytesValue}
 use Rattle.semantics.specs.Operations.{Value, idxRow, listRow, binRow, unRow, cmpRow}
 use Rattle.semantics.specs.Refusals.{Refusal}
 use Rattle.semantics.specs.Trees.{AmountList, BinOp, UnOp, IdxExpr, Expr, Arith}

@@ -7,7 +7,7 @@ use mathlib.Core.Path.{_≡_}
 use mathlib.Core.Logic.{_↔_}
 use mathlib.Core.List.{List}
 use lib.ListN.{length, take, drop}
-use Rattle.num64.specs.Bytes.{Bytes}
+use Rattle.slices.specs.Bytes.{Bytes}
 use Rattle.semantics.specs.Trees.{Arith}
 use Rattle.semantics.specs.Code.{maxCode, maxTokens}
 use Rattle.semantics.specs.Parse.{Parsed, parse}

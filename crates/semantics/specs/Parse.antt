@@ -4,7 +4,7 @@ use mathlib.Core.Bool.{Bool, _&&_, cond}
 use mathlib.Core.List.{List, [], _∷_}
 use lib.ListN.{length, getD, take, drop}
 use lib.Dec.{eqb}
-use Rattle.num64.specs.Bytes.{bytesValue}
+use Rattle.slices.specs.Bytes.{bytesValue}
 use Rattle.semantics.specs.Code.{Command, commandRow, commandOf}
 use Rattle.semantics.specs.Trees.{IdxExpr, Expr, Arith}
 

@@ -5,7 +5,7 @@ use mathlib.Core.Path.{_≡_}
 use mathlib.Core.List.{List, [], _∷_, _++_}
 use lib.Dec.{eqb, ltb}
 use lib.ListN.{length}
-use Rattle.num64.specs.Bytes.{Bytes}
+use Rattle.slices.specs.Bytes.{Bytes}
 pub use Rattle.semantics.specs.Operations.{Token, op, num, bytes8, bytes32, verified}
 use Rattle.semantics.specs.Operations.{idxRow, listRow, binRow, unRow, cmpRow}
 use Rattle.semantics.specs.Trees.{AmountList, IdxExpr, Expr, Arith}

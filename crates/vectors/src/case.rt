@@ -55,7 +55,7 @@ pub fn part(body: &[u8], k: usize) -> &[u8] {
 // The i-th number of a part, eight bytes each; 0 past the last.
 pub fn word(part: &[u8], i: usize) -> u64 {
     if i < part.len() / 8 {
-        return num64::read_le64(part, 8 * i);
+        return slices::read_le64(part, 8 * i);
     }
     0
 }

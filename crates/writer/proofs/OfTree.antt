@@ -7,8 +7,8 @@ use mathlib.Core.List.{List, [], _∷_, _++_, append-assoc, append-nil}
 use native.Mathlib.Omega.{arith}
 use lib.ListN.{length, getD, length-append}
 use lib.Seq.{drop-at, set-at, take-at}
-use Rattle.num64.specs.Bytes.{littleEndian}
-use Rattle.num64.proofs.Bytes.{value-of-bytes}
+use Rattle.slices.specs.Bytes.{littleEndian}
+use Rattle.slices.proofs.Bytes.{value-of-bytes}
 use Rattle.semantics.proofs.Forms.{narrow-append}
 use Rattle.semantics.specs.declared.Command.{Command}
 use Rattle.semantics.specs.declared.IdxOp.{IdxOp}

@@ -5,9 +5,9 @@ use native.Mathlib.Numerals.{add-one}
 use mathlib.Core.Path.{_≡_, refl, sym, _∙_, ap, ap₂}
 use mathlib.Core.List.{List, [], _∷_, _++_, map, append-assoc, append-nil}
 use lib.ListN.{drop-of-length-le, length, take, drop, getD, set, length-append, length-drop, length-map}
-use lib.Seq.{getD-take, take-suc, drop-cons, set-at, take-all, take-at, drop-at, drop-drop, length-take-le, take-take}
-use Rattle.num64.specs.Bytes.{bytesValue}
-use Rattle.num64.proofs.Bytes.{drop-take}
+use lib.Seq.{getD-take, paste, take-suc, drop-cons, set-at, take-all, take-at, drop-at, drop-drop, length-take-le, take-take}
+use Rattle.slices.specs.Bytes.{bytesValue}
+use Rattle.slices.proofs.Bytes.{drop-take}
 use borrow.Rule.Slice.PartMut.{midOf, putMid}
 use Rattle.semantics.specs.Evaluate.{over}
 
@@ -88,3 +88,7 @@ key-whole code at h = length-take-le 32 (drop at code) (simp length-drop (omega 
 
 pub key-length : (code : List ℕ) (at : ℕ) → at + 40 ≤ length code → length (take 32 (take 40 (drop at code))) ≡ 32
 key-length code at h = ap length (key-bytes code at) ∙ key-whole code at (omega arith)
+
+-- which are copied to the front of the keys
+pub key-copied : (code keys : List ℕ) (at : ℕ) → at + 40 ≤ length code → paste keys 0 (drop at code) 32 ≡ over (take 32 (take 40 (drop at code))) keys
+key-copied code keys at h = rw (key-bytes code at, key-whole code at (omega arith)) refl

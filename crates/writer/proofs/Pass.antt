@@ -8,8 +8,8 @@ use native.Mathlib.Omega.{arith}
 use borrow.Author.Tests.{leb-true}
 use lib.ListN.{length, take, drop, length-drop, length-set, set, take-append-drop}
 use lib.Seq.{length-take-le, take-suc-set}
-use Rattle.num64.specs.Bytes.{All}
-use Rattle.num64.proofs.Bytes.{all-drop}
+use Rattle.slices.specs.Bytes.{All}
+use Rattle.slices.proofs.Bytes.{all-drop}
 use Rattle.semantics.specs.declared.Command.{Command}
 use Rattle.semantics.specs.Code.{commandOf, commandRow, maxTokens}
 use Rattle.semantics.specs.Parse.{Instruction, fold, instructions}

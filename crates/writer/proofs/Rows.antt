@@ -15,7 +15,7 @@ use Rattle.semantics.specs.declared.CmpOp.{CmpOp}
 use Rattle.semantics.specs.declared.Command.{Command}
 use Rattle.semantics.specs.declared.IdxOp.{IdxOp}
 use Rattle.semantics.specs.declared.UnOp.{UnOp}
-use Rattle.num64.specs.Bytes.{bytesValue}
+use Rattle.slices.specs.Bytes.{bytesValue}
 use Rattle.semantics.proofs.Forms.{keys-append}
 use Rattle.semantics.specs.Operations.{Token}
 use Rattle.semantics.specs.Token.{narrow}

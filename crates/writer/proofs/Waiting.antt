@@ -8,7 +8,7 @@ use native.Mathlib.Omega.{arith}
 use borrow.Author.Tests.{eqb-true, leb-true}
 use lib.ListN.{length, getD, take, set}
 use lib.Seq.{getD-set-other, getD-set-same, length-take-le}
-use Rattle.num64.specs.Bytes.{All}
+use Rattle.slices.specs.Bytes.{All}
 use Rattle.semantics.specs.declared.AmountList.{AmountList}
 use Rattle.semantics.specs.declared.Command.{Command}
 use Rattle.semantics.specs.declared.IdxOp.{IdxOp}

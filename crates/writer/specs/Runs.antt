@@ -4,7 +4,7 @@ use mathlib.Core.Bool.{Bool, true, cond}
 use mathlib.Core.List.{List, [], _∷_, _++_, map}
 use lib.Dec.{eqb}
 use lib.ListN.{length, take, drop}
-use Rattle.num64.specs.Bytes.{bytesValue}
+use Rattle.slices.specs.Bytes.{bytesValue}
 use Rattle.semantics.specs.declared.AmountList.{AmountList}
 use Rattle.semantics.specs.declared.Command.{Command}
 use Rattle.semantics.specs.Code.{commandRow}

@@ -32,7 +32,7 @@ fn is_narrow(command: Command, code: &[u8], at: usize) -> bool
 {
     match command {
         Command::Unknown => true,
-        Command::IdxConst => num64::read_le64(code, at) < 4294967296,
+        Command::IdxConst => slices::read_le64(code, at) < 4294967296,
         Command::CurrIdx => true,
         Command::Index(_) => true,
         Command::Const => true,

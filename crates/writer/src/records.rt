@@ -28,14 +28,14 @@ fn numbers_of(command: Command, code: &[u8], at: usize) -> Numbers
     match command {
         Command::Unknown => Numbers { number: 1, bits: 0 },
         Command::IdxConst => Numbers {
-            number: num64::read_le64(code, at),
+            number: slices::read_le64(code, at),
             bits: 0,
         },
         Command::CurrIdx => Numbers { number: 1, bits: 0 },
         Command::Index(_) => Numbers { number: 1, bits: 0 },
         Command::Const => Numbers {
             number: 1,
-            bits: num64::read_le64(code, at),
+            bits: slices::read_le64(code, at),
         },
         Command::CurrInputIdx => Numbers { number: 1, bits: 0 },
         Command::Lookup(_) => Numbers { number: 1, bits: 0 },
@@ -43,11 +43,11 @@ fn numbers_of(command: Command, code: &[u8], at: usize) -> Numbers
         Command::Unary(_) => Numbers { number: 1, bits: 0 },
         Command::PriceOracle1 => Numbers {
             number: 1,
-            bits: num64::read_le64(code, at + 32),
+            bits: slices::read_le64(code, at + 32),
         },
         Command::PriceOracle1W => Numbers {
             number: 1,
-            bits: num64::read_le64(code, at + 32),
+            bits: slices::read_le64(code, at + 32),
         },
         Command::Compare(_) => Numbers { number: 1, bits: 0 },
     }
@@ -102,18 +102,6 @@ fn put(
     }
 }
 
-// The 32 bytes of a key, which stand in the code at `at`.
-fn copy_key(code: &[u8], at: usize, keys: &mut [u8])
-    requires { ⌜ (at + 32 ≤ length (now code)) × (32 ≤ length (now keys)) ⌝ }
-    ensures { λ _. ⌜ now (keys .exit) ≡ over (take 32 (drop at (now (code .entry)))) (now (keys .entry)) ⌝ }
-{
-    let mut j = 0;
-    while j < 32 {
-        keys[j] = code[at + j];
-        j += 1;
-    }
-}
-
 // A command's key, if it has one; its operand bytes stand at `at`. The answer is the number of key bytes.
 fn put_key(command: Command, code: &[u8], at: usize, keys: &mut [u8]) -> usize
     requires { ⌜ (at + commandRow command .width ≤ length (now code)) × (length (payload command (operandBytes command (now code) at) .key) ≤ length (now keys)) ⌝ }
@@ -131,11 +119,11 @@ fn put_key(command: Command, code: &[u8], at: usize, keys: &mut [u8]) -> usize
         Command::Binary(_) => 0,
         Command::Unary(_) => 0,
         Command::PriceOracle1 => {
-            copy_key(code, at, keys);
+            slices::copy(code, at, keys, 0, 32);
             32
         }
         Command::PriceOracle1W => {
-            copy_key(code, at, keys);
+            slices::copy(code, at, keys, 0, 32);
             32
         }
         Command::Compare(_) => 0,

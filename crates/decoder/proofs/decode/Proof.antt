@@ -3,8 +3,8 @@ use borrow.Author.Needs.{needs}
 use Prim.Native.Nat.{_<_, _^_}
 use mathlib.Core.Option.{none}
 use mathlib.Core.Path.{_≡_, sym, _∙_}
-use Rattle.num64.specs.Bytes.{All, Bytes}
-use Rattle.num64.proofs.Bytes.{all-of}
+use Rattle.slices.specs.Bytes.{All, Bytes}
+use Rattle.slices.proofs.Bytes.{all-of}
 use Rattle.semantics.specs.Records.{Records, recordsOf, unsound}
 use Rattle.decoder.proofs.Scans.{scanned-none, scanned-some}
 use Rattle.decoder.proofs.Call.{owed-10, owed-7, owed-9, owed-read}

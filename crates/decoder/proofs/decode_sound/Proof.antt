@@ -3,8 +3,8 @@ use borrow.Author.Needs.{needs}
 use Prim.Native.Nat.{_<_, _^_}
 use mathlib.Core.Path.{_≡_, sym, _∙_}
 use lib.ListN.{length}
-use Rattle.num64.specs.Bytes.{All, Bytes}
-use Rattle.num64.proofs.Bytes.{all-of}
+use Rattle.slices.specs.Bytes.{All, Bytes}
+use Rattle.slices.proofs.Bytes.{all-of}
 use Rattle.semantics.specs.FromTokens.{fromTokens}
 use Rattle.semantics.specs.Records.{Records, recordsOf, tokenAt}
 use Rattle.decoder.specs.Before.{before}

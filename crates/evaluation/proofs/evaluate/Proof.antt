@@ -4,7 +4,7 @@ use Prim.Native.Nat.{_<_}
 use mathlib.Core.Path.{sym, _∙_}
 use native.Mathlib.Omega.{arith}
 use borrow.Author.Tests.{not-false, not-true}
-use Rattle.num64.proofs.Bytes.{all-of}
+use Rattle.slices.proofs.Bytes.{all-of}
 use Rattle.semantics.specs.Evaluate.{Lent}
 use Rattle.operations.specs.Lists.{envOf}
 use Rattle.evaluation.proofs.Calls.{answers, bounded, few-oracles, refused-amounts, refused-buffer, refused-first, refused-witness, sound-paired}

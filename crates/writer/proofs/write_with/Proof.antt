@@ -4,7 +4,7 @@ use Prim.Native.Nat.{_<_}
 use mathlib.Core.Path.{sym, _∙_}
 use native.Mathlib.Omega.{arith}
 use borrow.Author.Tests.{not-false, not-true}
-use Rattle.num64.proofs.Bytes.{all-of}
+use Rattle.slices.proofs.Bytes.{all-of}
 use Rattle.semantics.specs.Records.{recordsOf}
 use Rattle.writer.proofs.Answers.{coded, few-oracles, fits, key-bytes, refused-narrow, refused-room, room, wrote}
 use Rattle.writer.proofs.write_with.Statement.{statement}

@@ -4,7 +4,7 @@ use Prim.Native.Nat.{_<_}
 use mathlib.Core.Path.{_∙_, ap, sym}
 use native.Mathlib.Omega.{arith}
 use lib.Seq.{length-take-le}
-use Rattle.num64.proofs.Bytes.{all-of}
+use Rattle.slices.proofs.Bytes.{all-of}
 use Rattle.covenant.specs.Answers.{writeAnswer}
 use Rattle.covenant.proofs.Loaded.{fields-written, writable-few}
 use Rattle.covenant.proofs.token_records.write_fields.Statement.{statement}

@@ -7,8 +7,8 @@ use Rattle.decoder.proofs.Buffer.{oracle-put}
 use Rattle.decoder.proofs.emission.put_oracle.Statement.{statement}
 use Rattle.decoder.proofs.emission.put_oracle.Tie as tie
 
-copied : (c : tie.After-copy-key) → length (c .copy-key .last .1 .1 .0) ≡ length (c .before .before .before .before .args .code .now)
-copied c = c .copy-key .kept .1 .1 .0 ∙ simp length-set
+copied : (c : tie.After-copy) → length (c .copy .last .1 .1 .0) ≡ length (c .before .before .before .before .args .code .now)
+copied c = c .copy .kept .1 .1 .0 ∙ simp length-set
 
 same-length : tie.Need-same-length
 same-length c = c .before .before .write-le64 .kept .0 ∙ copied (c .before .before .before .before .before .before)
@@ -17,7 +17,7 @@ returns : tie.Need-returns
 returns c =
     let s = c .before .before .before .before .before .before .before .before .before .before in
     oracle-put _ _ _ _ (s .args .at) (s .args .command) (s .args .keys .now) (s .args .place) (s .args .time) (s .pre .0) (s .pre .1) (s .pre .2) refl
-    (c .before .before .before .before .before .before .copy-key .ensures) (c .before .before .write-le64 .ensures)
+    (c .before .before .before .before .before .before .copy .ensures) (c .before .before .write-le64 .ensures)
 
 pub put-oracle-spec : {M : Type 1} → statement M
 put-oracle-spec =

@@ -5,7 +5,7 @@ use mathlib.Core.Path.{_≡_, sym, ap, subst⁻¹, _∙_}
 use mathlib.Core.List.{[], _∷_, _++_}
 use native.Mathlib.Omega.{arith}
 use lib.ListN.{length, drop, getD, take}
-use Rattle.num64.specs.Bytes.{littleEndian}
+use Rattle.slices.specs.Bytes.{littleEndian}
 use Rattle.semantics.specs.Records.{Records, recordsOf}
 use Rattle.decoder.specs.Pieces.{placedPiece, put, sizeOf}
 use Rattle.decoder.proofs.Buffer.{command-put, put-nothing}

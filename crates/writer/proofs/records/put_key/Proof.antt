@@ -1,8 +1,8 @@
 -- The key is the first 32 operand bytes of an oracle terminal.
 use borrow.Author.Needs.{needs}
-use mathlib.Core.Path.{refl, sym}
+use mathlib.Core.Path.{refl, sym, _∙_}
 use native.Mathlib.Omega.{arith}
-use Rattle.writer.proofs.Over.{key-bytes, key-length}
+use Rattle.writer.proofs.Over.{key-copied, key-length}
 use Rattle.writer.proofs.records.put_key.Statement.{statement}
 use Rattle.writer.proofs.records.put_key.Tie as tie
 
@@ -34,7 +34,7 @@ put-key-spec =
     (λ c. rw (c .enum-told8 .given .1) (refl, refl))
     (λ c. rw (c .enum-told9 .given .1) (refl, refl))
     (λ c. search needs)
-    (λ c. let q = rw (c .before .before .before .before .enum-told10 .given .1) at (c .before .before .before .before .before .before .before .before .pre) in rw (c .before .before .before .before .enum-told10 .given .1) (sym (key-length (c .before .before .before .before .before .before .before .before .args .code .now) (c .before .before .before .before .before .before .before .before .args .at) (q .0)), rw (key-bytes (c .before .before .before .before .before .before .before .before .args .code .now) (c .before .before .before .before .before .before .before .before .args .at)) (c .before .before .copy-key .ensures)))
+    (λ c. let q = rw (c .before .before .before .before .enum-told10 .given .1) at (c .before .before .before .before .before .before .before .before .pre) in rw (c .before .before .before .before .enum-told10 .given .1) (sym (key-length (c .before .before .before .before .before .before .before .before .args .code .now) (c .before .before .before .before .before .before .before .before .args .at) (q .0)), c .before .before .copy .ensures ∙ key-copied (c .before .before .before .before .before .before .before .before .args .code .now) (c .before .before .before .before .before .before .before .before .args .keys .now) (c .before .before .before .before .before .before .before .before .args .at) (q .0)))
     (λ c. search needs)
-    (λ c. let q = rw (c .before .before .before .before .enum-told11 .given .1) at (c .before .before .before .before .before .before .before .before .pre) in rw (c .before .before .before .before .enum-told11 .given .1) (sym (key-length (c .before .before .before .before .before .before .before .before .args .code .now) (c .before .before .before .before .before .before .before .before .args .at) (q .0)), rw (key-bytes (c .before .before .before .before .before .before .before .before .args .code .now) (c .before .before .before .before .before .before .before .before .args .at)) (c .before .before .copy-key2 .ensures)))
+    (λ c. let q = rw (c .before .before .before .before .enum-told11 .given .1) at (c .before .before .before .before .before .before .before .before .pre) in rw (c .before .before .before .before .enum-told11 .given .1) (sym (key-length (c .before .before .before .before .before .before .before .before .args .code .now) (c .before .before .before .before .before .before .before .before .args .at) (q .0)), c .before .before .copy2 .ensures ∙ key-copied (c .before .before .before .before .before .before .before .before .args .code .now) (c .before .before .before .before .before .before .before .before .args .keys .now) (c .before .before .before .before .before .before .before .before .args .at) (q .0)))
     (λ c. rw (c .enum-told12 .given .1) (refl, refl)))

@@ -6,8 +6,8 @@ use native.Mathlib.Omega.{arith}
 use native.Mathlib.Numerals.{add-one}
 use lib.ListN.{length, drop, length-drop, length-set}
 use lib.Seq.{getD-drop, paste, paste-suc, paste-zero}
-use Rattle.operations.proofs.witness.copy.Statement.{statement}
-use Rattle.operations.proofs.witness.copy.Tie as tie
+use Rattle.slices.proofs.copy.Statement.{statement}
+use Rattle.slices.proofs.copy.Tie as tie
 
 abbrev Inv-loop : tie.InvT-loop
 Inv-loop from at to₀ off n i₀ to i = (i ≤ n) × (length to ≡ length to₀) × (to ≡ paste to₀ off (drop at from) i)

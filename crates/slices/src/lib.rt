@@ -1,0 +1,53 @@
+// Bytes in lent slices: numbers of eight bytes, and copies.
+ghost use mathlib.Core.Path.{_≡_};
+ghost use mathlib.Core.List.{_++_};
+ghost use Prim.Native.Nat.{_+_, _≤_, _<_};
+ghost use lib.ListN.{length, take, drop};
+ghost use lib.Seq.{paste};
+ghost use Rattle.slices.specs.Bytes.{Read64, littleEndian};
+
+fn wide(x: u8) -> u64
+    ensures { λ r. ⌜ (r ≡ x) × (r < 256) ⌝ }
+{
+    x as u64
+}
+
+// The number of the eight bytes from `at` on, the lowest first.
+pub fn read_le64(s: &[u8], at: usize) -> u64
+    requires { ⌜ at + 8 ≤ length (now s) ⌝ }
+    ensures { λ r. ⌜ Read64 (now (s .entry)) at r ⌝ }
+{
+    let mut n: u64 = 0;
+    let mut k: usize = 0;
+    while k < 8 {
+        n = n * 256 + wide(s[at + (7 - k)]);
+        k += 1;
+    }
+    n
+}
+
+// The eight bytes of a number, the lowest first, go to `s`, from `at` on.
+pub fn write_le64(s: &mut [u8], at: usize, n: u64)
+    requires { ⌜ at + 8 ≤ length (now s) ⌝ }
+    ensures { λ r. ⌜ now (s .exit) ≡ take at (now (s .entry)) ++ littleEndian 8 n ++ drop (at + 8) (now (s .entry)) ⌝ }
+{
+    let mut rest = n;
+    let mut k: usize = 0;
+    while k < 8 {
+        s[at + k] = (rest % 256) as u8;
+        rest = rest / 256;
+        k += 1;
+    }
+}
+
+// n bytes of `from`, from `at` on, go to `to`, from `off` on.
+pub fn copy(from: &[u8], at: usize, to: &mut [u8], off: usize, n: usize)
+    requires { ⌜ (at + n ≤ length (now from)) × (off + n ≤ length (now to)) ⌝ }
+    ensures { λ _. ⌜ now (to .exit) ≡ paste (now (to .entry)) off (drop at (now (from .entry))) n ⌝ }
+{
+    let mut i = 0;
+    while i < n {
+        to[off + i] = from[at + i];
+        i += 1;
+    }
+}
