@@ -17,8 +17,8 @@ use Rattle.semantics.specs.declared.Refusal.{Refusal}
 use Rattle.semantics.specs.declared.UnOp.{UnOp}
 use Rattle.semantics.specs.Check.{checked}
 use Rattle.semantics.specs.Code.{commandOf, commandRow, maxCode, maxTokens}
-use Rattle.semantics.specs.Parse.{Instruction, Walk, fold, instructions, passes}
-use Rattle.semantics.proofs.Machine.{after, commandAt, refused-stays}
+use Rattle.semantics.specs.Parse.{Instruction, Walk, after, commandAt, fold, instructions, passes}
+use Rattle.semantics.proofs.Machine.{refused-stays}
 use Rattle.condition.specs.declared.Rule.{Rule}
 use Rattle.condition.specs.declared.Summary.{Summary}
 use Rattle.condition.specs.declared.Walked.{Walked}

@@ -14,8 +14,8 @@ use Rattle.semantics.specs.declared.Command.{Command}
 use Rattle.semantics.specs.declared.IdxOp.{IdxOp}
 use Rattle.semantics.specs.declared.UnOp.{UnOp}
 use Rattle.semantics.specs.Code.{commandRow}
-use Rattle.semantics.specs.Parse.{Walk, fold, instructions, passes}
-use Rattle.semantics.proofs.Machine.{after, commandAt, fold-ends, fold-takes, operandsAt, refused-stays}
+use Rattle.semantics.specs.Parse.{Walk, after, commandAt, fold, instructions, operandsAt, passes}
+use Rattle.semantics.proofs.Machine.{fold-ends, fold-takes, refused-stays}
 use Rattle.condition.specs.declared.Stepped.{Stepped}
 use Rattle.condition.specs.declared.Summary.{Summary}
 use Rattle.condition.specs.declared.Walked.{Walked}

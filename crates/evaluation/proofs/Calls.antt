@@ -19,12 +19,13 @@ use Rattle.semantics.specs.Oracle.{oracles}
 use Rattle.semantics.specs.Parse.{fold, instructions}
 use Rattle.semantics.specs.Trees.{Arith}
 use Rattle.semantics.proofs.Passing.{answered-passed, answered-refused, passing}
-use Rattle.semantics.proofs.Run.{Run, run-code, runStep}
+use Rattle.semantics.proofs.Run.{run-code}
 use Rattle.semantics.proofs.Tests.{and-true}
 use Rattle.condition.proofs.Onward.{accepted, accepted-oracles}
 use Rattle.operations.specs.Elements.{leftOf, stateOf}
 use Rattle.operations.specs.Lists.{Paired}
 use Rattle.evaluation.specs.Run.{Answers, Bounded}
+use Rattle.semantics.specs.Run.{Run, runStep}
 
 -- sound lists are paired
 paired-lengths : (a : Amounts) → paired a ≡ true → length (a .numbers) ≡ length (a .marks)

@@ -19,9 +19,8 @@ use Rattle.semantics.specs.Code.{commandRow}
 use Rattle.semantics.specs.Evaluate.{ended, endsSound, over}
 use Rattle.semantics.specs.Evaluation.{Env, Outcome, State, err, lookedUp, ok, oracle, outcome}
 use Rattle.semantics.specs.Operations.{binRow, idxRow, unRow}
-use Rattle.semantics.specs.Parse.{Instruction, fold, instructions}
-use Rattle.semantics.proofs.Machine.{after, commandAt, fold-takes, operandsAt}
-use Rattle.semantics.proofs.Run.{Run, act, operand, pushIndex, pushValue, runStep}
+use Rattle.semantics.specs.Parse.{Instruction, after, commandAt, fold, instructions, operandsAt}
+use Rattle.semantics.proofs.Machine.{fold-takes}
 use Rattle.semantics.proofs.Tests.{and-true}
 use Rattle.condition.specs.declared.Summary.{Summary}
 use Rattle.condition.specs.declared.Walked.{Walked}
@@ -33,6 +32,7 @@ use Rattle.operations.specs.Elements.{stateOf}
 use Rattle.evaluation.specs.Run.{Answers, Fits, Moves, Ready, Supplied, concluded, indexesIn, runOf, stackOf, valuesIn}
 use Rattle.operations.proofs.Elements.{left-count}
 use Rattle.evaluation.proofs.Stack.{length-stack}
+use Rattle.semantics.specs.Run.{Run, act, operand, pushIndex, pushValue, runStep}
 
 -- ---- how many wait after a command that goes on
 

@@ -10,11 +10,11 @@ use Rattle.semantics.specs.declared.Verdict.{Verdict}
 use Rattle.semantics.specs.Code.{commandRow, maxTokens}
 use Rattle.semantics.specs.Evaluation.{Outcome, State, err, ok}
 use Rattle.semantics.specs.Evaluate.{Evaluation, ended, endsSound}
-use Rattle.semantics.proofs.Run.{Run}
 use Rattle.condition.specs.declared.Summary.{Summary}
 use Rattle.condition.specs.declared.Walked.{Walked}
 use Rattle.condition.specs.Walk.{counted, foldTerminals, terminalsOf, walked}
 use Rattle.evaluation.specs.declared.stacks.Turn.{Turn}
+use Rattle.semantics.specs.Run.{Run}
 
 -- the first n operands of an array, the last one first
 abbrev pub stackOf : (ℕ → ℤ) → ℕ → List ℤ

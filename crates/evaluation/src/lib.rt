@@ -10,10 +10,10 @@ ghost use mathlib.Core.List.{[]};
 ghost use lib.ListN.{length};
 ghost use Rattle.semantics.specs.Evaluate.{endsSound, evaluated};
 ghost use Rattle.semantics.specs.Parse.{fold, instructions};
-ghost use Rattle.semantics.proofs.Run.{Run, runStep};
 ghost use Rattle.operations.specs.Lists.{Paired, envOf};
 ghost use Rattle.operations.specs.Elements.{stateOf};
 ghost use Rattle.evaluation.specs.Run.{Answers, Bounded};
+ghost use Rattle.semantics.specs.Run.{Run, runStep};
 
 mod run;
 mod stacks;

@@ -26,11 +26,11 @@ ghost use Rattle.semantics.specs.Code.{commandRow};
 ghost use Rattle.semantics.specs.Evaluation.{State, lookedUp, oracle, outcome};
 ghost use Rattle.semantics.specs.Evaluate.{endsSound};
 ghost use Rattle.semantics.specs.Parse.{fold, instructions};
-ghost use Rattle.semantics.proofs.Run.{Run, act, pushValue, runStep};
 ghost use Rattle.operations.specs.Lists.{Paired, envOf};
 ghost use Rattle.operations.specs.Elements.{stateOf};
 ghost use Rattle.operations.specs.Oracle.{Asks, keyAt, timeAt};
 ghost use Rattle.evaluation.specs.Run.{Answers, Fits, Moves, Ready, Supplied, indexesIn, runOf, valuesIn};
+ghost use Rattle.semantics.specs.Run.{Run, act, pushValue, runStep};
 
 // An oracle terminal, whose key and time stand at `at`: its price is pushed.
 fn step_oracle(

@@ -15,8 +15,8 @@ ghost use lib.ListN.{length, drop};
 ghost use Rattle.num64.specs.Steps.{stepped};
 ghost use Rattle.semantics.specs.Operations.{binRow, cmpRow, idxRow, unRow};
 ghost use Rattle.semantics.specs.Evaluation.{State, ok, outcome};
-ghost use Rattle.semantics.proofs.Run.{Run, operand, pushIndex, pushValue};
 ghost use Rattle.evaluation.specs.Run.{indexesIn, runOf, valuesIn};
+ghost use Rattle.semantics.specs.Run.{Run, operand, pushIndex, pushValue};
 
 // What a command leads to: so many values and indexes that wait, or the end of the evaluation.
 pub enum Turn {

@@ -13,7 +13,7 @@ use Rattle.semantics.specs.Code.{Command, code, commandOf, commandRow, e
 use Rattle.semantics.specs.Parse.{Instruction, Parsed, Waiting, Walk, built, finished, fold, index, instructions, lengths, nothing, parse, passes, treeStep, value}
 use Rattle.semantics.specs.Trees.{Arith, Expr, IdxExpr}
 use Rattle.semantics.proofs.Encodable.{Encodable, ExprEncodable, IdxEncodable, OracleEncodable}
-use Rattle.semantics.proofs.Instructions.{bytes-instructions, bytesOf, command-byte, known}
+use Rattle.semantics.proofs.Instructions.{bytes-instructions, bytesOf, command-byte, need-known}
 use Rattle.semantics.proofs.Machine.{refused-stays}
 use Rattle.semantics.proofs.ParseCode.{waiting}
 use Rattle.semantics.proofs.Tests.{and-true}
@@ -102,21 +102,6 @@ adds (Command.Compare o) n (y ∷ x ∷ []) is e w h =
     cc (none-waits is e, after-two [] (commandRow (Command.Compare o) .byte) n w (exprCode x) (exprCode y), append-nil (exprCode x ++ exprCode y))
 adds (Command.Compare o) n (y ∷ x ∷ z ∷ vs) is e w h =
     absurd (omega (arith, eqb-true (suc (suc (suc (length vs)))) 2 (and-true (eqb (suc (suc (suc (length vs)))) 2) (eqb (length is) 0) e .0)))
-
--- a command that passes is known
-need-known : (c : Command) (v i : ℕ) → commandRow c .need v i ≡ true → known c ≡ true
-need-known Command.Unknown v i e = e
-need-known Command.IdxConst v i e = refl
-need-known Command.CurrIdx v i e = refl
-need-known (Command.Index o) v i e = refl
-need-known Command.Const v i e = refl
-need-known Command.CurrInputIdx v i e = refl
-need-known (Command.Lookup l) v i e = refl
-need-known (Command.Binary o) v i e = refl
-need-known (Command.Unary o) v i e = refl
-need-known Command.PriceOracle1 v i e = refl
-need-known Command.PriceOracle1W v i e = refl
-need-known (Command.Compare o) v i e = refl
 
 -- where the walk ends with a tree, the step before passed
 passed : (t : Bool) (ns : List Instruction) (g : Walk Waiting) (at : ℕ) (a : Arith)

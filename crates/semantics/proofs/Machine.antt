@@ -3,13 +3,13 @@ use Prim.Native.Nat.{ℕ, suc, _+_, _≤_, _<_}
 use mathlib.Core.Path.{_≡_, refl, sym, ap, _∙_}
 use mathlib.Core.List.{List, [], _∷_, _++_, append-assoc}
 use native.Mathlib.Omega.{arith}
-use lib.ListN.{length, length-append, getD, take, drop, drop-of-length-le}
+use lib.ListN.{length, length-append, getD, drop, drop-of-length-le}
 use lib.Seq.{drop-cons, drop-drop}
 use Rattle.slices.specs.Bytes.{littleEndian}
 use Rattle.slices.proofs.Bytes.{length-littleEndian}
 use Rattle.semantics.specs.Operations.{binRow, cmpRow, idxRow, listRow, unRow}
 use Rattle.semantics.specs.Code.{Command, code, commandOf, commandRow, exprCode, idxCode}
-use Rattle.semantics.specs.Parse.{Counts, Instruction, Walk, fold, instructions, walkStep, width}
+use Rattle.semantics.specs.Parse.{Counts, Instruction, Walk, after, commandAt, fold, instructions, operandsAt, walkStep, width}
 use Rattle.semantics.specs.Trees.{Arith, Expr, IdxExpr}
 use Rattle.semantics.proofs.Instructions.{binary-command, compare-command, idx-command, instructions-cons, instructions-whole, list-command, unary-command}
 use Rattle.semantics.proofs.Encodable.{Encodable, ExprEncodable}
@@ -35,16 +35,6 @@ module _ {S : Type 0} (step : S → Command → List ℕ → S) where
 
 pub oracle-length : (key : List ℕ) (time : ℕ) → length key ≡ 32 → length (key ++ littleEndian 8 time) ≡ 40
 oracle-length key time h = rw (length-append, h, length-littleEndian 8 time)
-
--- the command at a position of code, and the position after it
-abbrev pub commandAt : List ℕ → ℕ → Command
-commandAt c at = commandOf (getD c at 0)
-
-abbrev pub operandsAt : List ℕ → ℕ → List ℕ
-operandsAt c at = take (width (getD c at 0)) (drop (suc at) c)
-
-abbrev pub after : List ℕ → ℕ → ℕ
-after c at = at + 1 + width (getD c at 0)
 
 pub instructions-at : (c : List ℕ) (at : ℕ) → at < length c
     → instructions (drop at c) ≡ record { byte = getD c at 0; operands = operandsAt c at } ∷ instructions (drop (after c at) c)

@@ -14,17 +14,8 @@ use Rattle.slices.specs.Bytes.{All}
 use Rattle.slices.proofs.Bytes.{all-getD}
 use Rattle.semantics.specs.Evaluate.{over}
 use Rattle.semantics.specs.Records.{Records}
-use Rattle.semantics.specs.Write.{KeysPlaced}
+use Rattle.semantics.specs.Write.{KeysPlaced, keysOf, placesFrom}
 use Rattle.semantics.specs.Token.{Sound, SoundAs, Token, op}
-
--- the key bytes of tokens, and the places of their records, where the first key stands at p
-unfoldable pub keysOf : List Token → List ℕ
-keysOf [] = []
-keysOf (t ∷ ts) = t .key ++ keysOf ts
-
-unfoldable pub placesFrom : ℕ → List Token → List ℕ
-placesFrom p [] = []
-placesFrom p (t ∷ ts) = cond (eqb (t .kind) 3) p 0 ∷ placesFrom (p + length (t .key)) ts
 
 pub length-places : (p : ℕ) (ts : List Token) → length (placesFrom p ts) ≡ length ts
 unfolding placesFrom

@@ -68,3 +68,18 @@ exprCode (Expr.PriceOracle1W key time) = commandRow Command.PriceOracle1W .byte 
 -- "Comparison", which "end[s] the code"
 unfoldable pub code : Arith → List ℕ
 code (Arith.Compare o x y) = exprCode x ++ exprCode y ++ cmpRow o .command ∷ []
+
+-- whether a command is that of some byte
+abbrev pub known : Command → Bool
+known Command.Unknown = false
+known Command.IdxConst = true
+known Command.CurrIdx = true
+known (Command.Index o) = true
+known Command.Const = true
+known Command.CurrInputIdx = true
+known (Command.Lookup l) = true
+known (Command.Binary o) = true
+known (Command.Unary o) = true
+known Command.PriceOracle1 = true
+known Command.PriceOracle1W = true
+known (Command.Compare o) = true

@@ -14,3 +14,4 @@ pub mod Records
 pub mod Write
 pub mod Decode
 pub mod Meaning
+pub mod Run

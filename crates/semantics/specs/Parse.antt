@@ -110,3 +110,13 @@ nothing = record { values = []; indexes = []; conditions = [] }
 
 unfoldable pub parse : List ℕ → Parsed
 parse c = finished (fold treeStep (Walk.going 0 nothing) (instructions c))
+
+-- the command at a position of code, its operand bytes, and the position after it
+abbrev pub commandAt : List ℕ → ℕ → Command
+commandAt c at = commandOf (getD c at 0)
+
+abbrev pub operandsAt : List ℕ → ℕ → List ℕ
+operandsAt c at = take (width (getD c at 0)) (drop (suc at) c)
+
+abbrev pub after : List ℕ → ℕ → ℕ
+after c at = at + 1 + width (getD c at 0)

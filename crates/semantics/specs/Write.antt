@@ -1,12 +1,12 @@
 -- WRITE, of the contents of its slices: what it answers, and what the lent records hold then.
 use Prim.Native.Nat.{ℕ, _+_, _*_, _<_, _≤_}
-use mathlib.Core.Bool.{Bool, _&&_}
+use mathlib.Core.Bool.{Bool, _&&_, cond}
 use mathlib.Core.Option.{Option, none, some}
 use mathlib.Core.Path.{_≡_}
 use mathlib.Core.Logic.{_⊎_}
-use mathlib.Core.List.{List, [], _∷_, map}
+use mathlib.Core.List.{List, [], _∷_, _++_, map}
 use lib.ListN.{length, getD, drop}
-use lib.Dec.{leb}
+use lib.Dec.{eqb, leb}
 use Rattle.semantics.specs.Trees.{Arith}
 use Rattle.semantics.specs.Refusals.{Refusal}
 use Rattle.semantics.specs.Token.{Token, op, form, narrow}
@@ -70,3 +70,12 @@ pub record RecordsWritten (ts : List Token) (n : ℕ) (old new : Records) : Type
 abbrev pub Writes : Writing → Records → Records → Type 0
 Writes (Writing.refused r) old new = new ≡ old
 Writes (Writing.writes ts n) old new = RecordsWritten ts n old new
+
+-- one order that is free to choose, each key after the last: the key bytes of tokens, and the places of their records, where the first key stands at p
+unfoldable pub keysOf : List Token → List ℕ
+keysOf [] = []
+keysOf (t ∷ ts) = t .key ++ keysOf ts
+
+unfoldable pub placesFrom : ℕ → List Token → List ℕ
+placesFrom p [] = []
+placesFrom p (t ∷ ts) = cond (eqb (t .kind) 3) p 0 ∷ placesFrom (p + length (t .key)) ts

@@ -5,15 +5,14 @@ use mathlib.Core.Path.{_≡_, refl, sym, _∙_}
 use mathlib.Core.List.{List}
 use native.Mathlib.Omega.{arith}
 use lib.ListN.{length}
-use Rattle.semantics.specs.declared.Command.{Command}
-use Rattle.semantics.specs.Code.{commandRow}
-use Rattle.semantics.proofs.Instructions.{known}
-use Rattle.semantics.proofs.Machine.{after, commandAt}
+use Rattle.semantics.specs.Code.{known}
 use Rattle.condition.specs.declared.Summary.{Summary}
 use Rattle.condition.specs.declared.Walked.{Walked}
 use Rattle.condition.specs.Walk.{next, start, walked}
 use Rattle.condition.proofs.Onward.{Onward, next-tokens, onward, so-far, some-token}
 use Rattle.condition.proofs.Steps.{walk-follows, walkFrom}
+use Rattle.semantics.specs.Parse.{after, commandAt}
+use Rattle.semantics.proofs.Instructions.{need-known}
 
 -- what is known of the commands before it is `here`, and of all of them `last`
 pub record Ahead (code : List ℕ) (last here : Summary) (at count : ℕ) : Type 0 where
@@ -23,20 +22,6 @@ pub record Ahead (code : List ℕ) (last here : Summary) (at count : ℕ) : Type
 pub ahead-start : (code : List ℕ) (last : Summary) → walked code ≡ Walked.Ended last → Ahead code last start 0 0
 unfolding walked
 ahead-start code last e = record { walk = e; few = omega arith }
-
-need-known : (c : Command) (v i : ℕ) → commandRow c .need v i ≡ true → known c ≡ true
-need-known Command.Unknown v i e = e
-need-known Command.IdxConst v i e = refl
-need-known Command.CurrIdx v i e = refl
-need-known (Command.Index o) v i e = refl
-need-known Command.Const v i e = refl
-need-known Command.CurrInputIdx v i e = refl
-need-known (Command.Lookup l) v i e = refl
-need-known (Command.Binary o) v i e = refl
-need-known (Command.Unary o) v i e = refl
-need-known Command.PriceOracle1 v i e = refl
-need-known Command.PriceOracle1W v i e = refl
-need-known (Command.Compare o) v i e = refl
 
 module _ (code : List ℕ) (last here : Summary) (at count : ℕ) (a : Ahead code last here at count) (inside : at < length code) where
   -- no comparison came before

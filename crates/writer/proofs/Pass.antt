@@ -12,8 +12,8 @@ use Rattle.slices.specs.Bytes.{All}
 use Rattle.slices.proofs.Bytes.{all-drop}
 use Rattle.semantics.specs.declared.Command.{Command}
 use Rattle.semantics.specs.Code.{commandOf, commandRow, maxTokens}
-use Rattle.semantics.specs.Parse.{Instruction, fold, instructions}
-use Rattle.semantics.proofs.Machine.{after, commandAt, fold-ends, fold-takes, operandsAt}
+use Rattle.semantics.specs.Parse.{Instruction, after, commandAt, fold, instructions, operandsAt}
+use Rattle.semantics.proofs.Machine.{fold-ends, fold-takes}
 use Rattle.condition.specs.declared.Summary.{Summary}
 use Rattle.condition.specs.Walk.{next, start}
 use Rattle.writer.specs.Marks.{Fits, Found, Marking, Ready, markStep, markingIn, marksOf, narrowCode, narrowStep, settled, stackIn}

@@ -19,10 +19,10 @@ use Rattle.slices.specs.Bytes.{bytesValue}
 use Rattle.semantics.proofs.Forms.{keys-append}
 use Rattle.semantics.specs.Operations.{Token}
 use Rattle.semantics.specs.Token.{narrow}
-use Rattle.semantics.proofs.Instructions.{known}
 use Rattle.writer.specs.Marks.{narrowStep}
 use Rattle.writer.specs.Runs.{bit, converted, numberAt, ownTokens, payload, placeAt, run, runOf}
 use Rattle.writer.specs.Storing.{keysOf, placesFrom}
+use Rattle.semantics.specs.Code.{known}
 
 abbrev kindsOf : List Token → List ℕ
 kindsOf = map (λ t. t .kind)

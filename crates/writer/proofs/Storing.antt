@@ -10,12 +10,11 @@ use lib.Seq.{drop-drop, getD-drop}
 use lib.ListN.{length, getD, take, drop, length-append, length-map, length-take}
 use Rattle.semantics.specs.declared.Command.{Command}
 use Rattle.semantics.specs.Evaluate.{over}
-use Rattle.semantics.specs.Code.{commandOf, commandRow}
+use Rattle.semantics.specs.Code.{commandOf, commandRow, known}
 use Rattle.semantics.specs.Operations.{Token}
-use Rattle.semantics.specs.Parse.{Instruction, fold, instructions}
+use Rattle.semantics.specs.Parse.{Instruction, after, commandAt, fold, instructions, operandsAt}
 use Rattle.semantics.specs.Records.{Records, recordsOf}
-use Rattle.semantics.proofs.Instructions.{known}
-use Rattle.semantics.proofs.Machine.{after, commandAt, fold-ends, fold-takes, operandsAt}
+use Rattle.semantics.proofs.Machine.{fold-ends, fold-takes}
 use Rattle.semantics.proofs.Placing.{length-places}
 use Rattle.condition.specs.declared.Summary.{Summary}
 use Rattle.condition.specs.Walk.{next, start}

@@ -12,8 +12,8 @@ use Rattle.semantics.specs.Records.{Records}
 use Rattle.condition.specs.declared.Summary.{Summary}
 use Rattle.condition.specs.declared.Walked.{Walked}
 use Rattle.condition.specs.Walk.{walked}
-unfoldable pub use Rattle.semantics.proofs.Placing.{keysOf, placesFrom}
 use Rattle.writer.specs.Runs.{run}
+unfoldable pub use Rattle.semantics.specs.Write.{keysOf, placesFrom}
 
 -- the tokens of some commands, and the marks of those after them
 pub record Emission : Type 0 where

@@ -8,11 +8,11 @@ use native.Mathlib.Omega.{arith}
 use lib.ListN.{length}
 use Rattle.semantics.specs.declared.Command.{Command}
 use Rattle.semantics.specs.Code.{commandRow}
-use Rattle.semantics.proofs.Machine.{commandAt}
 use Rattle.condition.specs.Walk.{Small, stepped, walked}
 use Rattle.condition.proofs.Steps.{small-next, step-failed, step-passed, walk-ends, walk-fails, walk-follows, walk-short, walk-takes, walkFrom}
 use Rattle.condition.proofs.walk.Statement.{statement}
 use Rattle.condition.proofs.walk.Tie as tie
+use Rattle.semantics.specs.Parse.{commandAt}
 
 abbrev Inv-loop : tie.InvT-loop
 Inv-loop code at₀ s₀ at s = (at ≤ length code) × Small at s × (walkFrom code at s ≡ walked code)

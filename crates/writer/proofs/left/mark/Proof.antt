@@ -7,10 +7,10 @@ use native.Mathlib.Omega.{arith}
 use borrow.Author.Tests.{not-false, not-true}
 use lib.ListN.{length, length-set}
 use Rattle.semantics.specs.Code.{commandRow, maxTokens}
-use Rattle.semantics.proofs.Machine.{commandAt}
 use Rattle.writer.proofs.Pass.{Loop, loop-below, loop-found, loop-next, loop-operands, loop-ready, loop-refused, loop-start}
 use Rattle.writer.proofs.left.mark.Statement.{statement}
 use Rattle.writer.proofs.left.mark.Tie as tie
+use Rattle.semantics.specs.Parse.{commandAt}
 
 abbrev Inv-loop : tie.InvT-loop
 Inv-loop code waiting₀ marks₀ at₀ count₀ indexes₀ waiting marks at count indexes =

@@ -8,11 +8,11 @@ use lib.ListN.{length}
 use Rattle.semantics.specs.Code.{commandRow}
 use Rattle.semantics.specs.Operations.{Token}
 use Rattle.semantics.specs.Records.{Records, recordsOf}
-use Rattle.semantics.proofs.Machine.{commandAt}
 use Rattle.writer.specs.Storing.{Room, emitted, keysOf}
 use Rattle.writer.proofs.Storing.{Bounds, Progress, all-done, bounds, command-known, command-operands, mark-inside, more-keys, more-tokens, none-yet, one-more, room-left, tokensHere}
 use Rattle.writer.proofs.records.put_all.Statement.{statement}
 use Rattle.writer.proofs.records.put_all.Tie as tie
+use Rattle.semantics.specs.Parse.{commandAt}
 
 abbrev Inv-loop : tie.InvT-loop
 Inv-loop code marks kinds₀ numbers₀ places₀ keys₀ at₀ count₀ n₀ k₀ kinds numbers places keys at count n k =
