@@ -129,7 +129,7 @@ fn step(
         Command::CurrIdx => push_index(idxs, Step::Value(current), values, indexes),
         Command::Index(op) => step_index(op, idxs, values, indexes),
         Command::Const => {
-            let z = num64::signed(slices::read_le64(code, at));
+            let z = word64::signed(slices::read_le64(code, at));
             push_value(vals, Value::Number(z), values, indexes)
         }
         Command::CurrInputIdx => step_lookup(

@@ -1,9 +1,9 @@
 // Document 01's worked examples as a table: the example's number, what is asked, and what is answered.
 mod print;
 
-use num64::bits;
 use print::text;
 use slices::write_le64;
+use word64::bits;
 
 const LEAST: i64 = -0x7fff_ffff_ffff_ffff - 1;
 

@@ -2,10 +2,9 @@
 ghost use mathlib.Core.Path.{_≡_};
 ghost use Prim.Native.Nat.{_+_, _*_, _<_, _≤_, _^_};
 ghost use lib.IntN.{pos, negsuc, natAbs, negℤ, _+ℤ_};
-ghost use lib.Signed.{mag, shrZ, ltZ, leZ};
-ghost use Rattle.num64.specs.Exact.{number, signOf, restOf, signedOf, bitsOf, eqZ};
+ghost use lib.Signed.{mag, shrZ};
+ghost use Rattle.num64.specs.Exact.{number, signOf, restOf};
 ghost use Rattle.num64.specs.Exact.{checkedAdd, checkedSub, checkedMul, checkedNeg, checkedDiv, checkedRem, fitted};
-ghost use Rattle.num64.specs.Exact.{andOf, orOf, xorOf, invertOf};
 ghost use Rattle.num64.specs.Steps.{idxAdd, idxSub, idxMul, idxDiv, stepped};
 
 const MAX: u64 = 0xffff_ffff_ffff_ffff;
@@ -29,85 +28,6 @@ pub enum Step {
 enum Whole {
     Pos(u64),
     NegSuc(u64),
-}
-
-// ---- the bits of a signed number
-
-// The bits unchanged as a signed number: 2^63 and more become negative.
-pub fn signed(bits: u64) -> i64
-    ensures { λ r. ⌜ r ≡ signedOf bits ⌝ }
-{
-    if bits < HALF {
-        bits as i64
-    } else {
-        !((!bits) as i64)
-    }
-}
-
-// And back.
-pub fn bits(a: i64) -> u64
-    ensures { λ r. ⌜ r ≡ bitsOf a ⌝ }
-{
-    match split(a) {
-        Whole::Pos(n) => n,
-        Whole::NegSuc(n) => !n,
-    }
-}
-
-pub fn bitand(a: i64, b: i64) -> i64
-    ensures { λ r. ⌜ r ≡ andOf a b ⌝ }
-{
-    a & b
-}
-
-pub fn bitor(a: i64, b: i64) -> i64
-    ensures { λ r. ⌜ r ≡ orOf a b ⌝ }
-{
-    a | b
-}
-
-pub fn xor(a: i64, b: i64) -> i64
-    ensures { λ r. ⌜ r ≡ xorOf a b ⌝ }
-{
-    a ^ b
-}
-
-pub fn invert(a: i64) -> i64
-    ensures { λ r. ⌜ r ≡ invertOf a ⌝ }
-{
-    !a
-}
-
-// ---- comparisons
-
-pub fn eq(a: i64, b: i64) -> bool
-    ensures { λ r. ⌜ r ≡ eqZ a b ⌝ }
-{
-    a == b
-}
-
-pub fn lt(a: i64, b: i64) -> bool
-    ensures { λ r. ⌜ r ≡ ltZ a b ⌝ }
-{
-    a < b
-}
-
-pub fn leq(a: i64, b: i64) -> bool
-    ensures { λ r. ⌜ r ≡ leZ a b ⌝ }
-{
-    a <= b
-}
-
-pub fn gt(a: i64, b: i64) -> bool
-    ensures { λ r. ⌜ r ≡ ltZ b a ⌝ }
-{
-    a > b
-}
-
-pub fn geq(a: i64, b: i64) -> bool
-    ensures { λ r. ⌜ r ≡ leZ b a ⌝ }
-{
-    a >= b
 }
 
 // ---- between signed and whole numbers

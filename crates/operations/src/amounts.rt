@@ -103,7 +103,7 @@ fn amount_at(list: AmountList, numbers: &[u64], marks: &[u8], i: u64) -> Value
     if marks[k] != 1 {
         return Value::Refused(hidden(list, i));
     }
-    Value::Number(num64::signed(numbers[k]))
+    Value::Number(word64::signed(numbers[k]))
 }
 
 // The amount that a list has at i, whatever the current index.

@@ -33,9 +33,9 @@ pub fn binary(op: BinOp, x: i64, y: i64) -> Value
         BinOp::Mul => or_refused(num64::checked_mul(x, y), Refusal::MulOverflow(x, y)),
         BinOp::Div => or_refused(num64::checked_div_euclid(x, y), Refusal::DivOverflow(x, y)),
         BinOp::Mod => or_refused(num64::checked_rem_euclid(x, y), Refusal::ModOverflow(x, y)),
-        BinOp::BitAnd => Value::Number(num64::bitand(x, y)),
-        BinOp::BitOr => Value::Number(num64::bitor(x, y)),
-        BinOp::Xor => Value::Number(num64::xor(x, y)),
+        BinOp::BitAnd => Value::Number(word64::bitand(x, y)),
+        BinOp::BitOr => Value::Number(word64::bitor(x, y)),
+        BinOp::Xor => Value::Number(word64::xor(x, y)),
     }
 }
 
@@ -43,7 +43,7 @@ pub fn unary(op: UnOp, x: i64) -> Value
     ensures { λ r. ⌜ r ≡ unRow op .result x ⌝ }
 {
     match op {
-        UnOp::Invert => Value::Number(num64::invert(x)),
+        UnOp::Invert => Value::Number(word64::invert(x)),
         UnOp::Negate => or_refused(num64::checked_neg(x), Refusal::NegOverflow(x)),
     }
 }
@@ -52,11 +52,11 @@ pub fn compare(op: CmpOp, x: i64, y: i64) -> bool
     ensures { λ r. ⌜ r ≡ cmpRow op .result x y ⌝ }
 {
     match op {
-        CmpOp::Eq => num64::eq(x, y),
-        CmpOp::Lt => num64::lt(x, y),
-        CmpOp::Leq => num64::leq(x, y),
-        CmpOp::Gt => num64::gt(x, y),
-        CmpOp::Geq => num64::geq(x, y),
+        CmpOp::Eq => word64::eq(x, y),
+        CmpOp::Lt => word64::lt(x, y),
+        CmpOp::Leq => word64::leq(x, y),
+        CmpOp::Gt => word64::gt(x, y),
+        CmpOp::Geq => word64::geq(x, y),
     }
 }
 

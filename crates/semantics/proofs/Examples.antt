@@ -6,7 +6,8 @@ use mathlib.Core.Path.{_≡_, refl}
 use mathlib.Core.List.{List, [], _∷_, _++_, map}
 use lib.ListN.{replicate}
 use lib.IntN.{ℤ, pos, negℤ}
-use Rattle.num64.specs.Exact.{signedOf, bitsOf, checkedAdd, checkedNeg, checkedDiv, checkedRem}
+use Rattle.num64.specs.Exact.{checkedAdd, checkedNeg, checkedDiv, checkedRem}
+use Rattle.word64.specs.Bits.{signedOf, bitsOf}
 use Rattle.num64.specs.Steps.{idxSub}
 use Rattle.slices.specs.Bytes.{bytesValue, littleEndian}
 use Rattle.semantics.specs.Check.{Checked, checked, condition, judged}

@@ -6,7 +6,8 @@ use mathlib.Core.Path.{_≡_, refl}
 use mathlib.Core.List.{List, [], _∷_, _++_, map}
 use lib.ListN.{getD, replicate}
 use lib.IntN.{ℤ}
-use Rattle.num64.specs.Exact.{bitsOf, checkedAdd, checkedSub, checkedMul}
+use Rattle.num64.specs.Exact.{checkedAdd, checkedSub, checkedMul}
+use Rattle.word64.specs.Bits.{bitsOf}
 use Rattle.num64.specs.Steps.{idxAdd, idxSub, idxMul, idxDiv}
 use Rattle.slices.specs.Bytes.{bytesValue, littleEndian}
 use Rattle.semantics.specs.Check.{Checked, checked, condition, judged}

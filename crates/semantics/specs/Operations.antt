@@ -8,7 +8,8 @@ use lib.IntN.{ℤ}
 use lib.Signed.{ltZ, leZ}
 use Rattle.num64.specs.declared.Signed64.{Signed64}
 use Rattle.num64.specs.declared.Signed64.the-variants as S
-use Rattle.num64.specs.Exact.{checkedAdd, checkedSub, checkedMul, checkedDiv, checkedRem, checkedNeg, andOf, orOf, xorOf, invertOf, eqZ}
+use Rattle.num64.specs.Exact.{checkedAdd, checkedSub, checkedMul, checkedDiv, checkedRem, checkedNeg}
+use Rattle.word64.specs.Bits.{andOf, orOf, xorOf, invertOf, eqZ}
 use Rattle.num64.specs.Steps.{idxAdd, idxSub, idxMul, idxDiv}
 use Rattle.semantics.specs.Trees.{IdxOp, AmountList, BinOp, UnOp, CmpOp}
 use Rattle.semantics.specs.Refusals.{Refusal}

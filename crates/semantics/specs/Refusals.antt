@@ -1,7 +1,7 @@
 -- "A refusal is a number with its data; place and data are 0 where none is named": the table under "What a call gives back".
 -- An index and a count are unsigned; a signed operand is given as its 64 bits.
 use Prim.Native.Nat.{ℕ}
-use Rattle.num64.specs.Exact.{bitsOf}
+use Rattle.word64.specs.Bits.{bitsOf}
 pub use Rattle.semantics.specs.declared.Refusal.{Refusal}
 pub use Rattle.semantics.specs.declared.Numbered.{Numbered}
 

@@ -1,6 +1,6 @@
 // The definitions that every contract cites stand in specs/. Here are the bounds, the types that definitions and code share, and the refusals' numbers.
 ghost use mathlib.Core.Path.{_≡_};
-ghost use Rattle.num64.specs.Exact.{bitsOf};
+ghost use Rattle.word64.specs.Bits.{bitsOf};
 ghost use Rattle.semantics.specs.Refusals.{refusal, numbered};
 
 // The most tokens that a condition's token form may have.
@@ -174,7 +174,7 @@ fn with_data(number: u32, first: u64, second: u64) -> Numbered
 fn with_operands(number: u32, x: i64, y: i64) -> Numbered
     ensures { λ r. ⌜ r ≡ refusal number (bitsOf x) (bitsOf y) ⌝ }
 {
-    with_data(number, num64::bits(x), num64::bits(y))
+    with_data(number, word64::bits(x), word64::bits(y))
 }
 
 pub fn number_of(r: Refusal) -> Numbered

@@ -6,7 +6,7 @@ use lib.IntN.{ℤ}
 use mir.Syntax.{w64}
 use mir.Val.{SFits, toZ, ofZ}
 use mir.Facts.{toZ-ofZ}
-use Rattle.num64.specs.Exact.{bitsOf}
+use Rattle.word64.specs.Bits.{bitsOf}
 use Rattle.semantics.specs.Refusals.{Numbered, refusal}
 use Rattle.semantics.proofs.number_of.Statement.{statement}
 use Rattle.semantics.proofs.number_of.Tie as tie
