@@ -9,7 +9,8 @@ use Rattle.slices.proofs.Bytes.{all-append, all-join, littleEndian-bytes}
 use Rattle.semantics.specs.Operations.{binRow, cmpRow, idxRow, listRow, unRow}
 use Rattle.semantics.specs.Trees.{IdxOp, AmountList, BinOp, UnOp, CmpOp, IdxExpr, Expr, Arith}
 use Rattle.semantics.specs.Code.{idxCode, exprCode, code}
-use Rattle.semantics.specs.Token.{Sound, idxForm, exprForm, form}
+use Rattle.semantics.specs.Token.{idxForm, exprForm, form}
+use Rattle.semantics.specs.Meaning.{Sound}
 
 abbrev pub IdxEncodable : IdxExpr → Type 0
 IdxEncodable (IdxExpr.Const n) = n < 2 ^ 64

@@ -15,9 +15,10 @@ use Rattle.slices.specs.Bytes.{All}
 use Rattle.semantics.proofs.Encodable.{Encodable, ExprEncodable, OracleEncodable}
 use Rattle.semantics.proofs.Tests.{and-assoc, and-true}
 use Rattle.semantics.specs.Oracle.{Terminal, oracles, oraclesIn, terminals}
-use Rattle.semantics.specs.Token.{Sound, SoundAs, Token, bytes32, bytes8, exprForm, form, idxForm, narrow, op, oracleForm}
+use Rattle.semantics.specs.Token.{Token, bytes32, bytes8, exprForm, form, idxForm, narrow, op, oracleForm}
 use Rattle.semantics.specs.Trees.{BinOp, CmpOp, IdxOp, AmountList, UnOp, Arith, Expr, IdxExpr}
 use Rattle.semantics.specs.Write.{keysOf}
+use Rattle.semantics.specs.Meaning.{Sound, SoundAs}
 
 -- of an operation's own tokens
 record Own (ts : List Token) : Type 0 where

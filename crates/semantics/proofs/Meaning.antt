@@ -14,12 +14,12 @@ use Rattle.semantics.specs.Code.{code, maxCode, maxTokens}
 use Rattle.semantics.specs.Decode.{Reading, decode, decoded, decodedAs, reading, unlessRuled}
 use Rattle.semantics.specs.Evaluate.{Lent, evaluated}
 use Rattle.semantics.specs.FromTokens.{Found, found, fromTokens, nothing}
-use Rattle.semantics.specs.Meaning.{CallAccepts, CallUnambiguous, DecodeAccepts, FormAt, HasForm, PassingAt, Unambiguous}
+use Rattle.semantics.specs.Meaning.{CallAccepts, CallUnambiguous, DecodeAccepts, FormAt, HasForm, ListUnambiguous, PassingAt, Sound, Unambiguous}
 use Rattle.semantics.specs.Oracle.{oracleRule}
 use Rattle.semantics.specs.Parse.{parse}
 use Rattle.semantics.specs.Records.{Records, tokens, unsound}
 use Rattle.semantics.specs.Refusals.{Refusal}
-use Rattle.semantics.specs.Token.{Sound, Token, form}
+use Rattle.semantics.specs.Token.{Token, form}
 use Rattle.semantics.specs.Trees.{Arith}
 use Rattle.semantics.proofs.Canon.{canon, judged-alike, oracleRule-canon}
 use Rattle.semantics.proofs.CodeParse.{code-parse, parse-encodable}
@@ -109,7 +109,7 @@ forms-alike ts few a b f g l =
     rw (p, q, f .wellFormed, g .wellFormed) (judged-alike (f .tree) (g .tree) e (reader-one arith-reader (f .tree) (g .tree) [] [] (cc) .0) l)
 
 -- DEMAND 3
-pub unambiguous : (ts : List Token) → length ts ≤ maxTokens → All Sound ts → Unambiguous ts (DecodeAccepts ts)
+pub unambiguous : (ts : List Token) → ListUnambiguous ts
 unambiguous ts few sound =
     record {
       accepts = (

@@ -1,11 +1,11 @@
 -- What the calls know of a condition that 1 to 5 let pass.
-use Prim.Native.Nat.{ℕ, _≤_}
+use Prim.Native.Nat.{ℕ, _<_, _≤_}
 use mathlib.Core.Bool.{Bool, true, false, cond}
 use mathlib.Core.Option.{Option, none, some}
 use mathlib.Core.Path.{_≡_, refl}
 use mathlib.Core.List.{List, [], _∷_}
 use native.Mathlib.Omega.{arith}
-use borrow.Author.Tests.{leb-true}
+use borrow.Author.Tests.{leb-true, lt-leb}
 use lib.ListN.{length}
 use lib.Dec.{leb}
 use Rattle.slices.specs.Bytes.{Bytes}
@@ -20,10 +20,8 @@ use Rattle.semantics.proofs.Encodable.{Encodable}
 use Rattle.semantics.proofs.CodeParse.{code-parse, parse-encodable}
 
 pub record Passing (b : List ℕ) (a : Arith) : Type 0 where
-  pub parses : parse b ≡ Parsed.tree a
   pub encodable : Encodable a
   pub coded : code a ≡ b
-  pub short : length b ≤ maxCode
   pub few : length (form a) ≤ maxTokens
   pub rule : oracleRule a ≡ none
 
@@ -59,10 +57,17 @@ passing b h a e =
     let q = parsed (parse b) a (p .1) in
     let j = judged-passed (q .0) a (leb (length (form (q .0))) maxTokens) (oracleRule (q .0)) (q .2) in
     rw (← j .0) (record {
-      parses = q .1;
       encodable = parse-encodable b (q .0) h (q .1);
       coded = code-parse b (q .0) h (q .1);
-      short = leb-true (length b) maxCode (p .0);
       few = leb-true (length (form (q .0))) maxTokens (j .1);
       rule = j .2;
     })
+
+-- The order of refusals where an input shows it that is too long to compute: 1 before 2 to 5, and 3 before 4 and 5.
+pub too-long : (b : List ℕ) → maxCode < length b → condition b ≡ Condition.refused Refusal.CodeTooLong
+unfolding condition
+too-long b h = rw (lt-leb (length b) maxCode h)
+
+pub too-many : (a : Arith) → maxTokens < length (form a) → judged a ≡ Condition.refused Refusal.TooManyTokens
+unfolding judged
+too-many a h = rw (lt-leb (length (form a)) maxTokens h)

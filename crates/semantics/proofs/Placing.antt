@@ -1,8 +1,8 @@
 -- Keys placed one after the other, in the order of their tokens, stand as Write owes it: `in-order`. A writer that places them so has two equations to prove.
 use Prim.Native.Nat.{ℕ, zero, suc, _+_, _*_, _≤_, _<_}
 use mathlib.Core.Bool.{cond}
-use mathlib.Core.Path.{_≡_, refl, ap, _∙_, subst}
-use mathlib.Core.Logic.{inl}
+use mathlib.Core.Path.{_≡_, refl, sym, ap, _∙_, subst}
+use mathlib.Core.Logic.{_⊎_, inl, inr}
 use mathlib.Core.List.{List, [], _∷_, _++_, append-assoc}
 use native.Mathlib.Nat.{add-zero, zero-add}
 use native.Mathlib.Omega.{arith}
@@ -15,7 +15,8 @@ use Rattle.slices.proofs.Bytes.{all-getD}
 use Rattle.semantics.specs.Evaluate.{over}
 use Rattle.semantics.specs.Records.{Records}
 use Rattle.semantics.specs.Write.{KeysPlaced, keysOf, placesFrom}
-use Rattle.semantics.specs.Token.{Sound, SoundAs, Token, op}
+use Rattle.semantics.specs.Token.{Token, op}
+use Rattle.semantics.specs.Meaning.{Sound, SoundAs}
 
 pub length-places : (p : ℕ) (ts : List Token) → length (placesFrom p ts) ≡ length ts
 unfolding placesFrom
@@ -82,3 +83,17 @@ in-order ts n old new s l p q =
 
     placed : (i : ℕ) → i < length ts → getD ts i (op 0) .kind ≡ 3 → getD (new .places) i 0 ≡ length (keysOf (take i ts))
     placed i h e = place i h ∙ rw (eq-eqb (getD ts i (op 0) .kind) 3 e, zero-add)
+
+-- "without overlap": no byte of the key buffer is a byte of two keys
+pub no-shared-byte : (ts : List Token) (n : ℕ) (r : Records) → KeysPlaced ts n r → (i j : ℕ) → i < j → j < length ts
+    → getD ts i (op 0) .kind ≡ 3 → getD ts j (op 0) .kind ≡ 3 → (a b : ℕ) → a < 32 → b < 32 → getD (r .places) i 0 + a ≡ getD (r .places) j 0 + b → ⊥
+no-shared-byte ts n r k i j h l e f a b p q s = go (k .apart i j h l e f)
+  where
+    go : (getD (r .places) i 0 + 32 ≤ getD (r .places) j 0) ⊎ (getD (r .places) j 0 + 32 ≤ getD (r .places) i 0) → ⊥
+    go (inl x) = omega arith
+    go (inr x) = omega arith
+
+-- "Other unused fields are .. written as 0": so two ways of placing the keys of one form agree in all other places
+pub other-places : (ts : List Token) (n : ℕ) (r s : Records) → KeysPlaced ts n r → KeysPlaced ts n s → (i : ℕ) → i < length ts
+    → (getD ts i (op 0) .kind ≡ 3 → ⊥) → getD (r .places) i 0 ≡ getD (s .places) i 0
+other-places ts n r s p q i h e = p .unused i h e ∙ sym (q .unused i h e)

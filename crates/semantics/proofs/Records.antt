@@ -14,9 +14,10 @@ use Rattle.slices.specs.Bytes.{All, Bytes}
 use Rattle.slices.proofs.Bytes.{all-drop, all-getD, all-take}
 use Rattle.semantics.specs.Evaluate.{over}
 use Rattle.semantics.specs.Records.{Records, keyOf, soundAt, tokenAt, tokenOf, tokens, tokensFrom, unsound, unsoundFrom}
-use Rattle.semantics.specs.Token.{Sound, SoundAs, Token, op}
+use Rattle.semantics.specs.Token.{Token, op}
 use Rattle.semantics.specs.Write.{RecordsWritten}
 use Rattle.semantics.proofs.Tests.{and-true}
+use Rattle.semantics.specs.Meaning.{Sound, SoundAs}
 
 length-from : (r : Records) (i k : ℕ) → length (tokensFrom r i k) ≡ k
 unfolding tokensFrom

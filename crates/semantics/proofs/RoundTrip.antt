@@ -20,7 +20,7 @@ use Rattle.semantics.specs.FromTokens.{fromTokens}
 use Rattle.semantics.specs.Oracle.{oracleRule, oracles}
 use Rattle.semantics.specs.Records.{Records, keyOf, soundAt, tokenAt, tokenOf, tokens, unsound, unsoundFrom}
 use Rattle.semantics.specs.Refusals.{Refusal}
-use Rattle.semantics.specs.Token.{Sound, SoundAs, Token, form, narrow, op}
+use Rattle.semantics.specs.Token.{Token, form, narrow, op}
 use Rattle.semantics.specs.Trees.{Arith}
 use Rattle.semantics.specs.Write.{RecordsWritten, Writes, Writing, Written, roomFor, writesUnless, writing, written}
 use Rattle.semantics.proofs.Canon.{canon, oracleRule-canon}
@@ -30,6 +30,7 @@ use Rattle.semantics.proofs.Meaning.{call-decodes}
 use Rattle.semantics.proofs.Passing.{passing}
 use Rattle.semantics.proofs.Records.{getD-tokens, length-tokens, written-tokens}
 use Rattle.semantics.proofs.Tests.{and-true}
+use Rattle.semantics.specs.Meaning.{Sound, SoundAs}
 
 -- the first n records
 abbrev pub firstRecords : ℕ → Records → Records

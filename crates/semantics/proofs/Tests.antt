@@ -1,4 +1,4 @@
--- Tests that hold: both of two, either of two, and a number's test with itself.
+-- Laws of tests: both of two hold, three in a row, a number and itself.
 use Prim.Native.Nat.{ℕ}
 use mathlib.Core.Path.{_≡_, refl}
 use mathlib.Core.Bool.{Bool, true, false, _&&_}

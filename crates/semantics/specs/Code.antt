@@ -22,7 +22,7 @@ pub record CommandRow : Type 0 where
   pub need : ℕ → ℕ → Bool
 
 abbrev pub commandRow : Command → CommandRow
--- no byte is this command's: a byte that is no other's stands for it
+-- every byte that no row below has; `commands` leaves this row out, so that its own byte is never compared
 commandRow Command.Unknown = record { byte = 0; width = 0; need = λ v i. false }
 commandRow Command.IdxConst = record { byte = 1; width = 8; need = λ v i. true }
 commandRow Command.CurrIdx = record { byte = 2; width = 0; need = λ v i. true }

@@ -1,13 +1,13 @@
--- DEMAND 3: no token sequence carries two meanings. One statement about a whole token list, `Unambiguous`; that it holds of every list of up to
--- 1,024 sound tokens, and of the call on records, is proved in proofs/Meaning.antt (`unambiguous`, `call-unambiguous`).
-use Prim.Native.Nat.{ℕ, _<_, _≤_}
+-- DEMAND 3: no token sequence carries two meanings. One statement about a whole token list, `Unambiguous`. That it holds of the decoder of token lists
+-- (`ListUnambiguous`) and of the call on records (`CallUnambiguous`) is proved in proofs/Meaning.antt (`unambiguous`, `call-unambiguous`).
+use Prim.Native.Nat.{ℕ, zero, suc, _<_, _≤_, _^_}
 use mathlib.Core.Bool.{true}
 use mathlib.Core.Option.{none}
 use mathlib.Core.Path.{_≡_}
 use mathlib.Core.Logic.{_↔_}
-use mathlib.Core.List.{List}
+use mathlib.Core.List.{List, []}
 use lib.ListN.{length, take, drop}
-use Rattle.slices.specs.Bytes.{Bytes}
+use Rattle.slices.specs.Bytes.{All, Bytes}
 use Rattle.semantics.specs.Trees.{Arith}
 use Rattle.semantics.specs.Code.{maxCode, maxTokens}
 use Rattle.semantics.specs.Parse.{Parsed, parse}
@@ -46,9 +46,24 @@ pub record Unambiguous (ts : List Token) (Accepts : List ℕ → ℕ → Type 0)
   -- and whatever Evaluate is lent, it answers all conditions that have one tail for their form alike
   pub alike : (n : ℕ) (a b : List ℕ) → HasForm a (drop n ts) → HasForm b (drop n ts) → (l : Lent) → evaluated a l ≡ evaluated b l
 
+-- "Unsound: kind over 35, Num of 2^32 or more, or a Bytes32" without its 32 bytes: what a sound token has, by its kind
+abbrev pub SoundAs : ℕ → ℕ → List ℕ → Type 0
+SoundAs zero number key = (number ≡ 0) × (key ≡ [])
+SoundAs (suc zero) number key = (number < 2 ^ 32) × (key ≡ [])
+SoundAs (suc (suc zero)) number key = (number < 2 ^ 64) × (key ≡ [])
+SoundAs (suc (suc (suc zero))) number key = (number ≡ 0) × (length key ≡ 32) × Bytes key
+SoundAs (suc (suc (suc (suc k)))) number key = (suc (suc (suc (suc k))) ≤ 35) × (number ≡ 0) × (key ≡ [])
+
+abbrev pub Sound : Token → Type 0
+Sound t = SoundAs (t .kind) (t .number) (t .key)
+
 -- the decoder of token lists
 abbrev pub DecodeAccepts : List Token → List ℕ → ℕ → Type 0
 DecodeAccepts ts b n = decode ts ≡ Reading.accepted b n
+
+-- what it owes, of every list of up to 1,024 sound tokens
+abbrev pub ListUnambiguous : List Token → Type 0
+ListUnambiguous ts = length ts ≤ maxTokens → All Sound ts → Unambiguous ts (DecodeAccepts ts)
 
 -- and a call on records: its answer and what its code buffer holds then
 abbrev pub CallAccepts : Decoded → List ℕ → List ℕ → ℕ → Type 0

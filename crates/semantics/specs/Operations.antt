@@ -46,10 +46,13 @@ pub record IdxRow : Type 0 where
   pub result : ℤ → ℤ → Option ℤ
 
 abbrev pub idxRow : IdxOp → IdxRow
--- ADD; SUB; SCRIPTNUMTOLE64 MUL64 <1> EQUALVERIFY LE64TOSCRIPTNUM; SCRIPTNUMTOLE64 DIV64 <1> EQUALVERIFY NIP LE64TOSCRIPTNUM
+-- ADD
 idxRow IdxOp.Add = record { command = 3; between = []; form = op 5 ∷ []; result = idxAdd }
+-- SUB
 idxRow IdxOp.Sub = record { command = 4; between = []; form = op 6 ∷ []; result = idxSub }
+-- SCRIPTNUMTOLE64 MUL64 <1> EQUALVERIFY LE64TOSCRIPTNUM
 idxRow IdxOp.Mul = record { command = 5; between = op 7 ∷ []; form = op 7 ∷ op 9 ∷ verified ++ op 8 ∷ []; result = idxMul }
+-- SCRIPTNUMTOLE64 DIV64 <1> EQUALVERIFY NIP LE64TOSCRIPTNUM
 idxRow IdxOp.Div = record { command = 6; between = op 7 ∷ []; form = op 7 ∷ op 10 ∷ verified ++ op 16 ∷ op 8 ∷ []; result = idxDiv }
 
 -- the refusals of an index past the list's end, and of an amount that is not explicit
@@ -63,12 +66,14 @@ abbrev pub row : ℕ → List Token → (ℕ → ℕ → Refusal) → (ℕ → R
 row c f o h = record { command = c; form = f; outside = o; hidden = h }
 
 abbrev pub listRow : AmountList → ListRow
--- INSPECTINPUTVALUE or INSPECTOUTPUTVALUE <1> EQUALVERIFY
+-- INSPECTINPUTVALUE <1> EQUALVERIFY
 listRow AmountList.Input = row 18 (op 22 ∷ verified) Refusal.UtxoIndexOutOfBounds Refusal.NonExplicitInput
+-- INSPECTOUTPUTVALUE <1> EQUALVERIFY
 listRow AmountList.Output = row 19 (op 23 ∷ verified) Refusal.OutputIndexOutOfBounds Refusal.NonExplicitOutput
--- INSPECTINPUTISSUANCE DROP DROP <1> EQUALVERIFY NIP NIP; INSPECTINPUTISSUANCE DROP DROP DROP DROP <1> EQUALVERIFY
+-- INSPECTINPUTISSUANCE DROP DROP <1> EQUALVERIFY NIP NIP
 listRow AmountList.InputIssue =
     row 20 (op 24 ∷ op 17 ∷ op 17 ∷ verified ++ op 16 ∷ op 16 ∷ []) Refusal.InputIndexOutOfBounds Refusal.NonExplicitInputIssuance
+-- INSPECTINPUTISSUANCE DROP DROP DROP DROP <1> EQUALVERIFY
 listRow AmountList.InputReIssue =
     row 21 (op 24 ∷ op 17 ∷ op 17 ∷ op 17 ∷ op 17 ∷ verified) Refusal.InputIndexOutOfBounds Refusal.NonExplicitInputReIssuance
 
@@ -83,14 +88,21 @@ pub record BinRow : Type 0 where
   pub result : ℤ → ℤ → Value
 
 abbrev pub binRow : BinOp → BinRow
--- ADD64, SUB64 or MUL64 <1> EQUALVERIFY; DIV64 <1> EQUALVERIFY and NIP, which keeps the quotient, or DROP, which keeps the remainder; AND; OR; XOR
+-- ADD64 <1> EQUALVERIFY
 binRow BinOp.Add = record { command = 22; form = op 11 ∷ verified; result = λ x y. orRefused (checkedAdd x y) (Refusal.AddOverflow x y) }
+-- SUB64 <1> EQUALVERIFY
 binRow BinOp.Sub = record { command = 23; form = op 12 ∷ verified; result = λ x y. orRefused (checkedSub x y) (Refusal.SubOverflow x y) }
+-- MUL64 <1> EQUALVERIFY
 binRow BinOp.Mul = record { command = 24; form = op 9 ∷ verified; result = λ x y. orRefused (checkedMul x y) (Refusal.MulOverflow x y) }
+-- DIV64 <1> EQUALVERIFY NIP, which keeps the quotient
 binRow BinOp.Div = record { command = 25; form = op 10 ∷ verified ++ op 16 ∷ []; result = λ x y. orRefused (checkedDiv x y) (Refusal.DivOverflow x y) }
+-- DIV64 <1> EQUALVERIFY DROP, which keeps the remainder
 binRow BinOp.Mod = record { command = 26; form = op 10 ∷ verified ++ op 17 ∷ []; result = λ x y. orRefused (checkedRem x y) (Refusal.ModOverflow x y) }
+-- AND
 binRow BinOp.BitAnd = record { command = 27; form = op 18 ∷ []; result = λ x y. Value.Number (andOf x y) }
+-- OR
 binRow BinOp.BitOr = record { command = 28; form = op 19 ∷ []; result = λ x y. Value.Number (orOf x y) }
+-- XOR
 binRow BinOp.Xor = record { command = 29; form = op 20 ∷ []; result = λ x y. Value.Number (xorOf x y) }
 
 pub record UnRow : Type 0 where
@@ -99,8 +111,9 @@ pub record UnRow : Type 0 where
   pub result : ℤ → Value
 
 abbrev pub unRow : UnOp → UnRow
--- INVERT; NEG64 <1> EQUALVERIFY
+-- INVERT
 unRow UnOp.Invert = record { command = 30; form = op 21 ∷ []; result = λ x. Value.Number (invertOf x) }
+-- NEG64 <1> EQUALVERIFY
 unRow UnOp.Negate = record { command = 31; form = op 13 ∷ verified; result = λ x. orRefused (checkedNeg x) (Refusal.NegOverflow x) }
 
 pub record CmpRow : Type 0 where
@@ -109,11 +122,15 @@ pub record CmpRow : Type 0 where
   pub result : ℤ → ℤ → Bool
 
 abbrev pub cmpRow : CmpOp → CmpRow
--- EQUAL; LESSTHAN64; LESSTHANOREQUAL64; GREATERTHAN64; GREATERTHANOREQUAL64
+-- EQUAL
 cmpRow CmpOp.Eq = record { command = 48; form = op 14 ∷ []; result = eqZ }
+-- LESSTHAN64
 cmpRow CmpOp.Lt = record { command = 49; form = op 31 ∷ []; result = ltZ }
+-- LESSTHANOREQUAL64
 cmpRow CmpOp.Leq = record { command = 50; form = op 30 ∷ []; result = leZ }
+-- GREATERTHAN64
 cmpRow CmpOp.Gt = record { command = 51; form = op 29 ∷ []; result = λ x y. ltZ y x }
+-- GREATERTHANOREQUAL64
 cmpRow CmpOp.Geq = record { command = 52; form = op 28 ∷ []; result = λ x y. leZ y x }
 
 -- every operation

@@ -29,6 +29,7 @@ missing ts = cond (among ts) (some Refusal.PriceOracle1Missing) none
 
 -- "4 if the left side's first terminal is 33; else 5 if 32 stands among the left side's later terminals or anywhere on the right"
 abbrev pub rule : List Terminal → List Terminal → Option Refusal
+-- every side has a terminal
 rule [] right = missing right
 rule (Terminal.Other ∷ later) right = missing (later ++ right)
 rule (Terminal.PriceOracle1 ∷ later) right = missing (later ++ right)

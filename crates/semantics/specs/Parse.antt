@@ -60,7 +60,7 @@ pub record Waiting : Type 0 where
 abbrev pub lengths : Waiting → Counts
 lengths w = record { values = length (w .values); indexes = length (w .indexes); conditions = length (w .conditions) }
 
--- the tree that waits k below the last one
+-- the tree that waits k below the last one; a need that is met says that there is one
 abbrev pub value : Waiting → ℕ → Expr
 value w k = getD (w .values) k Expr.CurrInputIdx
 
@@ -75,6 +75,7 @@ abbrev pub pushValue : ℕ → ℕ → Expr → Waiting → Waiting
 pushValue k i x w = record { values = x ∷ drop k (w .values); indexes = drop i (w .indexes); conditions = w .conditions }
 
 abbrev pub built : Command → List ℕ → Waiting → Waiting
+-- its need is never met
 built Command.Unknown n w = w
 built Command.IdxConst n w = pushIndex 0 (IdxExpr.Const (bytesValue n)) w
 built Command.CurrIdx n w = pushIndex 0 IdxExpr.CurrIdx w

@@ -1,11 +1,8 @@
 -- "The token form is that of the two `push_to_builder` in source arith.rs and index_ops.rs, EQUALVERIFY counting as Equal, Verify and push_int as Num."
-use Prim.Native.Nat.{ℕ, zero, suc, _≤_, _<_, _^_}
+use Prim.Native.Nat.{ℕ, _^_}
 use mathlib.Core.Bool.{Bool, true, not, _&&_, _||_}
-use mathlib.Core.Path.{_≡_}
 use mathlib.Core.List.{List, [], _∷_, _++_}
 use lib.Dec.{eqb, ltb}
-use lib.ListN.{length}
-use Rattle.slices.specs.Bytes.{Bytes}
 pub use Rattle.semantics.specs.Operations.{Token, op, num, bytes8, bytes32, verified}
 use Rattle.semantics.specs.Operations.{idxRow, listRow, binRow, unRow, cmpRow}
 use Rattle.semantics.specs.Trees.{AmountList, IdxExpr, Expr, Arith}
@@ -34,17 +31,6 @@ exprForm (Expr.PriceOracle1W key time) = op 26 ∷ oracleForm key time ++ op 27 
 -- `Arith::push_to_builder`
 unfoldable pub form : Arith → List Token
 form (Arith.Compare o x y) = exprForm x ++ exprForm y ++ cmpRow o .form
-
--- "Unsound: kind over 35, Num of 2^32 or more, or a Bytes32" without its 32 bytes: what a sound token has, by its kind
-abbrev pub SoundAs : ℕ → ℕ → List ℕ → Type 0
-SoundAs zero number key = (number ≡ 0) × (key ≡ [])
-SoundAs (suc zero) number key = (number < 2 ^ 32) × (key ≡ [])
-SoundAs (suc (suc zero)) number key = (number < 2 ^ 64) × (key ≡ [])
-SoundAs (suc (suc (suc zero))) number key = (number ≡ 0) × (length key ≡ 32) × Bytes key
-SoundAs (suc (suc (suc (suc k)))) number key = (suc (suc (suc (suc k))) ≤ 35) × (number ≡ 0) × (key ≡ [])
-
-abbrev pub Sound : Token → Type 0
-Sound t = SoundAs (t .kind) (t .number) (t .key)
 
 -- 6: "an index constant of 2^32 or more"; no other token of a form is a Num of that size
 abbrev pub narrow : List Token → Bool

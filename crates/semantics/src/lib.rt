@@ -79,7 +79,7 @@ pub enum Terminal {
 
 // ---- what the calls give back
 
-// Why a call refuses, from 4 and 5 on by the names of the source; the numbers are in specs/Refusals.antt.
+// Why a call refuses; 4, 5 and 20 to 40 by the names of the source. The numbers are in specs/Refusals.antt.
 pub enum Refusal {
     CodeTooLong,
     NotWellFormed(usize),
