@@ -6,12 +6,8 @@ run: toolchain
 	@log=$$(mktemp) && { rt check examples >"$$log" 2>&1 || { cat "$$log"; rm -f "$$log"; exit 1; }; rm -f "$$log"; }
 	@target/bin/examples
 
-# rt ci comes last, so that the last line is its 'N passed, M failed'.
 test: toolchain listed
-	rt fmt --check
-	$(MAKE) --no-print-directory archive
-	tests/boundary/run.sh
-	rt ci
+	tests/run.sh
 
 # target/staticlib/libcovenant.a, for the programs that link it
 archive: toolchain
