@@ -10,6 +10,7 @@ body, 4 bytes each; the parts. Numbers are little-endian, 8 bytes each unless sa
   Write     code; room of kinds, numbers, places and keys, number, place, records, key bytes; kinds; numbers; the key of each Bytes32
   Decode    kinds; numbers; places (4 bytes each); keys; room for code, number, place, code bytes, start; code
 """
+import concurrent.futures
 import os
 import random
 import struct
@@ -396,7 +397,7 @@ def decodings():
     forms = [form(small(condition())) for _ in range(900)]
     for f in forms:
         decode(*records(f))
-    for f in forms[:400]:  # strangers before the tail are passed over
+    for f in forms[:400]:  # other tokens before the tail are passed over
         decode(*records([token() for _ in range(rng.randrange(1, 6))] + f))
     for f in forms[:700]:
         decode(*records(altered(f)))
@@ -464,7 +465,7 @@ def examples():
     decode(*records([b8, b8, (14,)]))
 
 
-# ---- what the published Rust answered: published.txt, printed by `compare sample 7 400` (tests/compare), the longest lines left out
+# ---- what the published Rust answered: published.txt, made by `target/compare/compare sample 7 400 | awk 'length < 1500'` (tests/compare)
 
 def unhex(s):
     return b"" if s in "-." else bytes.fromhex(s)
@@ -522,6 +523,8 @@ def published(path):
 
 
 def main():
+    if len(sys.argv) != 2:
+        sys.exit("generate.py FILE: where the cases are written")
     published(os.path.join(os.path.dirname(os.path.abspath(__file__)), "published.txt"))
     examples()
     for c in codes():
@@ -542,8 +545,13 @@ def main():
     print(len(cases.out), "cases", sum(map(len, cases.out)), "bytes")
 
 
-sys.setrecursionlimit(20000)
-threading.stack_size(512 << 20)
-thread = threading.Thread(target=main)
-thread.start()
-thread.join()
+def started():
+    """main, with room for deep recursion; what fails in it fails the program."""
+    sys.setrecursionlimit(20000)
+    threading.stack_size(512 << 20)
+    with concurrent.futures.ThreadPoolExecutor(1) as pool:
+        pool.submit(main).result()
+
+
+if __name__ == "__main__":
+    started()
