@@ -7,6 +7,7 @@ import os
 import re
 import subprocess
 import sys
+import textwrap
 
 ROOT = os.path.dirname(os.path.dirname(os.path.abspath(__file__)))
 OUT = os.path.join(ROOT, "target", "bench")
@@ -181,7 +182,7 @@ def above(rows):
             if r[3][c] / r[4][c] > 1.005:
                 over.setdefault(s, []).append(r[3][c] / r[4][c])
         told = "; ".join("%s %s" % (s, span(ratios, "%.2f")) for s, ratios in over.items()) or "nothing"
-        out.append("- %s: %s. Why it takes what it does: %s %s" % (name, told, WHY[name], taken[name]))
+        out += textwrap.wrap("- %s: %s %s Above 1.00: %s." % (name, WHY[name], taken[name], told), 160, subsequent_indent="  ")
     return out + [""]
 
 
