@@ -101,6 +101,10 @@ def shapes(rows):
     return list(dict.fromkeys(s for s, _ in rows))
 
 
+def paragraph(text):
+    return textwrap.wrap(text, 160) + [""]
+
+
 def memory(rows, refused, cases):
     sections = {}
     for l in run("size", "-A", LIB).splitlines():
@@ -125,12 +129,12 @@ def memory(rows, refused, cases):
     }
     out = ["# Memory", "", "Measured by `make bench` on x86-64. The unit has %d KiB for everything. Figures are bytes." % (UNIT_BYTES >> 10), ""]
     out += ["The archive has %d bytes of code and %d of constants, and no data of its own: nothing is allocated or kept between calls." % (text, rodata), ""]
-    out += ["## Each call at its worst", "",
-            "Stack is the high-water mark of a painted stack over the conditions and the token lists below, and over every case of crates/vectors, refused or not. Only Decode has",
-            "functions that call themselves: its readers, at most once for each token and once more. The token lists of the last table take them as deep as that. The proofs say nothing",
-            "about the stack: who calls must have what stands here.", "",
-            "Lent is what the caller provides for the largest condition. Amounts: %d slots a list are assumed, and a transaction with more asks for more. Decode takes as many key bytes" % SLOTS,
-            "as the caller has; %d keys are those of the largest condition." % oracles, ""]
+    out += ["## Each call at its worst", ""]
+    out += paragraph("Stack is the high-water mark of a painted stack over the conditions and the token lists below, and over every case of crates/vectors, refused or not. Only Decode "
+                     "has functions that call themselves: its readers, at most once for each token and once more. The token lists of the last table take them as deep as that. The proofs "
+                     "say nothing about the stack: who calls must have what stands here.")
+    out += paragraph("Lent is what the caller provides for the largest condition. Amounts: %d slots a list are assumed, and a transaction with more asks for more. Decode takes as many "
+                     "key bytes as the caller has; %d keys are those of the largest condition." % (SLOTS, oracles))
     out += ["| call | stack | lent | sum with the archive | of %d KiB |" % (UNIT_BYTES >> 10), "|---|---|---|---|---|"]
     for c, name in enumerate(STACKS):
         n = sum(k for _, k in lent[name])
@@ -142,10 +146,10 @@ def memory(rows, refused, cases):
         for size in (256, 512, 1024):
             tokens, stack = rows[s, size][:2]
             out.append("| %s | %d | %s |" % (s, tokens, " | ".join(map(str, stack))))
-    out += ["", "## Stack of Decode on token lists that it refuses", "",
-            "Each list is an operation of one token, repeated and without an operand, before Equal or, for an index step, before InpValue, Num 1, Equal, Verify, Equal. The answer is 11.",
-            "The first token is of the kind, among all 36, that takes most.", "",
-            "| repeated | tokens | Decode | Decode, records |", "|---|---|---|---|"]
+    out += ["", "## Stack of Decode on token lists that it refuses", ""]
+    out += paragraph("Each list is an operation of one token, repeated and without an operand, before Equal or, for an index step, before InpValue, Num 1, Equal, Verify, Equal. The "
+                     "answer is 11. The first token is of the kind, among all 36, that takes most.")
+    out += ["| repeated | tokens | Decode | Decode, records |", "|---|---|---|---|"]
     out += ["| %s | %d | %d | %d |" % (s, n, *r[:2]) for (s, n), r in refused.items()]
     write("MEMORY.md", out)
 
@@ -187,9 +191,11 @@ def above(rows):
 
 
 def speed(rows, refused):
-    out = ["# Speed", "", "Measured by `make bench`, both sides in one run: the archive, and the published Rust over the stand-ins of tests/compare, compiled with -O. Instructions are those of one call,",
-           "counted by callgrind, memset and memcpy (bench/memory.c) included; a ratio is ours to the Rust's. The Rust's calls are `Arith::new`, `eval`, `push_to_builder` and `from_tokens`, of a",
-           "tree that is already built or to be built on the heap; ours take condition code or token records as they are lent, and check them on every call.", ""]
+    out = ["# Speed", ""]
+    out += paragraph("Measured by `make bench`, both sides in one run: the archive, and the published Rust over the stand-ins of tests/compare, compiled with -O. Instructions are those of "
+                     "one call, counted by callgrind, memset and memcpy (bench/memory.c) included; a ratio is ours to the Rust's. The Rust's calls are `Arith::new`, `eval`, "
+                     "`push_to_builder` and `from_tokens`, of a tree that is already built or to be built on the heap; ours take condition code or token records as they are lent, and "
+                     "check them on every call.")
     out += above(rows)
     for c, name in enumerate(CALLS):
         out += ["## " + name, "", "| condition | tokens | ours | Rust | ratio | ns ours | ns Rust |", "|---|---|---|---|---|---|---|"]
@@ -202,9 +208,10 @@ def speed(rows, refused):
     for s in shapes(rows):
         small, large = rows[s, 256], rows[s, 1024]
         out.append("| %s | %s |" % (s, " | ".join("%.2f" % (large[3][c] / large[0] / (small[3][c] / small[0])) for c in range(4))))
-    out += ["", "## Against %d ms" % UNIT_MS, "",
-            "A call of the unit may take %d ms. The slowest that was measured of each call, at one instruction a nanosecond; Decode also on the token lists that docs/MEMORY.md names." % UNIT_MS, "",
-            "| call | given | instructions | ms |", "|---|---|---|---|"]
+    out += ["", "## Against %d ms" % UNIT_MS, ""]
+    out += paragraph("A call of the unit may take %d ms. The slowest that was measured of each call, at one instruction a nanosecond; Decode also on the token lists that docs/MEMORY.md "
+                     "names." % UNIT_MS)
+    out += ["| call | given | instructions | ms |", "|---|---|---|---|"]
     for c, name in enumerate(CALLS):
         given = {"%s, %d tokens" % (s, r[0]): r[3][c] for (s, _), r in rows.items()}
         if name == "Decode":

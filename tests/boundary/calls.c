@@ -163,11 +163,42 @@ static void records(void) {
     expect(d.number == 11 && kept(back, 0, sizeof back), "decode_records: no records");
 }
 
+/* n oracle terminals joined by BitAnd, Eq 9; the code's length. */
+static size_t terminals_code(uint8_t *code, size_t n) {
+    size_t at = 0;
+    for (size_t i = 0; i < n; i++) {
+        memset(code + at, 7, 41);
+        code[at] = i ? 33 : 32;
+        at += 41;
+        if (i) code[at++] = 27;
+    }
+    memset(code + at, 0, 10);
+    code[at] = 16, code[at + 1] = 9, code[at + 9] = 48;
+    return at + 10;
+}
+
+/* The sizes that the header names are enough for the most oracle terminals that there can be; one more is refused. */
+static void most_terminals(void) {
+    enum { MOST = COVENANT_MAX_ORACLES };
+    static uint8_t code[42 * (MOST + 1) + 10], witness[80 * MOST], checks[112 * MOST], kinds[COVENANT_MAX_TOKENS], keys[32 * MOST];
+    static uint64_t numbers[COVENANT_MAX_TOKENS];
+    static uint32_t places[COVENANT_MAX_TOKENS], ends[3 * MOST];
+    size_t n = terminals_code(code, MOST);
+    for (uint32_t i = 0; i < 3 * MOST; i++) ends[i] = 80 * (i / 3) + (i % 3 == 0 ? 64 : i % 3 == 1 ? 72 : 80);
+    covenant_evaluated e = covenant_evaluate(code, n, 0, 0, 0, 0, 0, 0, 0, 0, 0, 0, 0, 0, 0, 0, 0, 0, 0, witness, sizeof witness, ends, COUNT(ends), checks, sizeof checks);
+    expect(e.number == 0 && e.checks == MOST && e.left == 0, "evaluate: the most oracle terminals");
+    covenant_written w = covenant_write(code, n, kinds, COUNT(kinds), numbers, COUNT(numbers), places, COUNT(places), keys, sizeof keys);
+    expect(w.number == 0 && w.records <= COVENANT_MAX_TOKENS && w.key_bytes == sizeof keys, "write: the most oracle terminals");
+    n = terminals_code(code, MOST + 1);
+    expect(covenant_check(code, n).number == 3, "check: an oracle terminal too many");
+}
+
 int main(void) {
     check();
     evaluate();
     write_and_decode();
     records();
+    most_terminals();
     if (!failures) puts("boundary: the calls from C agree");
     return failures != 0;
 }

@@ -1,12 +1,7 @@
 // Our answers to the same lines, from the archive. Buffers have the room that the calls ask for, and a byte more, which must be kept.
-use crate::covenant::{self, List};
+use crate::covenant::{self, List, MAX_CODE, MAX_ORACLES, MAX_TOKENS};
 use crate::published::{hex, list, records, spell, unhex};
 use crate::common::Record;
-
-/// The sizes that the header names.
-const MAX_CODE: usize = 9216;
-const MAX_TOKENS: usize = 1024;
-const MAX_ORACLES: usize = 73;
 
 fn amounts(s: &str) -> List {
     let mut l = List::default();
