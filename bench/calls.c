@@ -1,5 +1,6 @@
-/* calls FILE: for each line of shapes.py the stack of each call, in bytes, and the time of the first four, in nanoseconds (the least of 40 rounds).
- * calls FILE LINE CALL: makes that one call ten times, for callgrind. */
+/* calls FILE: for each line of `shapes.py` the stack of each call, in bytes, and the time of the first four, in nanoseconds (the least of 40 rounds).
+ * calls refused FILE: for each line of `shapes.py refused` the stack of Decode and of Decode over records, and the time of Decode.
+ * calls FILE LINE CALL, calls refused FILE LINE: makes that one call (that Decode) ten times, for callgrind. */
 #define _POSIX_C_SOURCE 199309L
 #include "covenant.h"
 #include "stack.h"
@@ -8,14 +9,14 @@
 #include <string.h>
 #include <time.h>
 
-enum { CALLS = 6, TIMED = 4 };
+enum { CALLS = 6, TIMED = 4, KINDS = 36, CODE = COVENANT_MAX_CODE, TOKENS = COVENANT_MAX_TOKENS, ORACLES = COVENANT_MAX_ORACLES };
 
 /* What is lent, as large as any call asks for. */
-static uint8_t code[9216], witness[80 * 103], checks[112 * 103], kinds[1024], keys[32 * 103], back[9216];
-static uint64_t numbers[1024], spent[4] = {1, 1, 1, 1};
-static uint32_t places[1024], ends[3 * 103];
+static uint8_t code[CODE], witness[80 * ORACLES], checks[112 * ORACLES], kinds[TOKENS], keys[32 * ORACLES], back[CODE];
+static uint64_t numbers[TOKENS], spent[4] = {1, 1, 1, 1};
+static uint32_t places[TOKENS], ends[3 * ORACLES];
 static const uint8_t marks[4] = {1, 1, 1, 1};
-static covenant_record records[1024];
+static covenant_record records[TOKENS];
 static size_t code_count, ends_count, tokens, key_bytes;
 
 static void check(void *p) { *(covenant_checked *)p = covenant_check(code, code_count); }
@@ -25,27 +26,40 @@ static void evaluate(void *p) {
                                                  ends_count ? ends[ends_count - 1] : 0, ends, ends_count, checks, sizeof checks);
 }
 
-static void write(void *p) { *(covenant_written *)p = covenant_write(code, code_count, kinds, 1024, numbers, 1024, places, 1024, keys, sizeof keys); }
+static void write(void *p) { *(covenant_written *)p = covenant_write(code, code_count, kinds, TOKENS, numbers, TOKENS, places, TOKENS, keys, sizeof keys); }
 
 static void decode(void *p) {
     *(covenant_decoded *)p = covenant_decode(kinds, tokens, numbers, tokens, places, tokens, keys, key_bytes, back, sizeof back);
 }
 
-static void write_records(void *p) { *(covenant_written *)p = covenant_write_records(code, code_count, records, 1024, keys, sizeof keys); }
+static void write_records(void *p) { *(covenant_written *)p = covenant_write_records(code, code_count, records, TOKENS, keys, sizeof keys); }
 
 static void decode_records(void *p) { *(covenant_decoded *)p = covenant_decode_records(records, tokens, keys, key_bytes, back, sizeof back); }
 
 static void (*const call[CALLS])(void *) = {check, evaluate, write, decode, write_records, decode_records};
 
-/* Lends the condition of a line, with the witness of its oracle terminals: signature, time 3, price 1. Its tokens are written for Decode. */
-static void lend(const char *shape, const char *hex) {
-    code_count = strlen(hex) / 2;
-    for (size_t i = 0; i < code_count; i++) {
+static size_t bytes_of(const char *hex, uint8_t *out) {
+    size_t n = strlen(hex) / 2;
+    for (size_t i = 0; i < n; i++) {
         unsigned b;
         sscanf(hex + 2 * i, "%2x", &b);
-        code[i] = (uint8_t)b;
+        out[i] = (uint8_t)b;
     }
-    ends_count = strcmp(shape, "oracle") ? 0 : 3 * (code_count / 41);
+    return n;
+}
+
+/* The commands 32 and 33 of the code. */
+static size_t terminals(void) {
+    size_t n = 0;
+    for (size_t at = 0; at < code_count; at += code[at] == 1 || code[at] == 16 ? 9 : code[at] == 32 || code[at] == 33 ? 41 : 1)
+        n += code[at] == 32 || code[at] == 33;
+    return n;
+}
+
+/* Lends the condition of a line, with the witness of its oracle terminals: signature, time 3, price 1. Its tokens are written for Decode. */
+static void lend(const char *shape, const char *hex) {
+    code_count = bytes_of(hex, code);
+    ends_count = 3 * terminals();
     uint32_t at = 0;
     memset(witness, 0, sizeof witness);
     for (size_t i = 0; i < ends_count; i++) {
@@ -63,6 +77,19 @@ static void lend(const char *shape, const char *hex) {
     decode(&d);
     if (w.number || e.number || d.number || d.code_bytes != code_count || memcmp(back, code, code_count)) {
         printf("%s: Write %u, Evaluate %u, Decode %u\n", shape, w.number, e.number, d.number);
+        exit(1);
+    }
+}
+
+/* Lends the token list of a line, which Decode must refuse; every number is 1. */
+static void lend_refused(const char *shape, const char *hex) {
+    tokens = bytes_of(hex, kinds), key_bytes = 0;
+    for (size_t i = 0; i < tokens; i++) numbers[i] = 1, places[i] = 0, records[i] = (covenant_record){kinds[i], 1, 0};
+    covenant_decoded d, r;
+    decode(&d);
+    decode_records(&r);
+    if (d.number != 11 || r.number != 11) {
+        printf("%s: Decode %u, over records %u\n", shape, d.number, r.number);
         exit(1);
     }
 }
@@ -85,22 +112,51 @@ static double least(void (*f)(void *), void *p) {
     return best;
 }
 
+typedef union { covenant_checked c; covenant_evaluated e; covenant_written w; covenant_decoded d; } any_answer;
+
+static void measure(const char *shape, unsigned n) {
+    any_answer answer;
+    printf("%s %u", shape, n);
+    for (int i = 0; i < CALLS; i++) printf(" %zu", stack_used(call[i], &answer));
+    for (int i = 0; i < TIMED; i++) printf(" %.0f", least(call[i], &answer));
+    puts("");
+}
+
+/* The most over all kinds of the first token, where the readers are deepest. */
+static size_t most_stack(void (*f)(void *)) {
+    any_answer answer;
+    size_t most = 0;
+    uint8_t first = kinds[0];
+    for (int k = 0; k < KINDS; k++) {
+        kinds[0] = records[0].kind = (uint8_t)k;
+        size_t used = stack_used(f, &answer);
+        if (used > most) most = used;
+    }
+    kinds[0] = records[0].kind = first;
+    return most;
+}
+
+static void measure_refused(const char *shape, unsigned n) {
+    any_answer answer;
+    printf("%s %u %zu %zu %.0f\n", shape, n, most_stack(decode), most_stack(decode_records), least(decode, &answer));
+}
+
 int main(int argc, char **argv) {
-    static char shape[32], hex[2 * 9216 + 1];
+    static char shape[32], hex[2 * CODE + 1];
+    int refused = argc > 1 && !strcmp(argv[1], "refused");
+    argc -= refused, argv += refused;
     unsigned n;
-    union { covenant_checked c; covenant_evaluated e; covenant_written w; covenant_decoded d; } answer;
-    FILE *f = fopen(argv[1], "r");
-    for (int line = 0; f && fscanf(f, "%31s %u %18432s", shape, &n, hex) == 3; line++) {
+    FILE *f = argc > 1 ? fopen(argv[1], "r") : 0;
+    if (!f) return 1;
+    for (int line = 0; fscanf(f, "%31s %u %18432s", shape, &n, hex) == 3; line++) {
         if (argc > 2 && line != atoi(argv[2])) continue;
-        lend(shape, hex);
-        if (argc > 3) {
-            for (int i = 0; i < 10; i++) call[atoi(argv[3])](&answer);
+        (refused ? lend_refused : lend)(shape, hex);
+        if (argc > 2) {
+            any_answer answer;
+            for (int i = 0; i < 10; i++) (refused ? decode : call[atoi(argv[3])])(&answer);
             return 0;
         }
-        printf("%s %u", shape, n);
-        for (int i = 0; i < CALLS; i++) printf(" %zu", stack_used(call[i], &answer));
-        for (int i = 0; i < TIMED; i++) printf(" %.0f", least(call[i], &answer));
-        puts("");
+        (refused ? measure_refused : measure)(shape, n);
     }
     return 0;
 }

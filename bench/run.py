@@ -1,16 +1,21 @@
 #!/usr/bin/env python3
 """run.py: measures the archive and writes docs/MEMORY.md; and, where RUST_SOURCE names the folder of the published source, the Rust beside it, and writes docs/SPEED.md.
-Needs gcc and an archive in target/staticlib; for the speed also valgrind and rustc."""
+Needs gcc and an archive in target/staticlib; for the speed also valgrind and rustc. Every figure that it writes is of the run, but for the sizes that the header names
+and the two bounds of the unit."""
 import concurrent.futures
 import os
 import re
 import subprocess
 import sys
+import textwrap
 
 ROOT = os.path.dirname(os.path.dirname(os.path.abspath(__file__)))
 OUT = os.path.join(ROOT, "target", "bench")
 LIB = os.path.join(ROOT, "target", "staticlib", "libcovenant.a")
-SHAPES = os.path.join(OUT, "shapes")
+SHAPES, REFUSED = os.path.join(OUT, "shapes"), os.path.join(OUT, "refused")
+CASES = os.path.join(ROOT, "crates", "vectors", "data", "cases")
+UNIT_BYTES, UNIT_MS = 512 << 10, 200
+SLOTS = 256  # of a list of amounts, for the table of memory
 CALLS = ["Check", "Evaluate", "Write", "Decode"]
 SIZES = [12, 100, 256, 512, 1024]
 STACKS = CALLS + ["Write, records", "Decode, records"]
@@ -24,19 +29,26 @@ def run(*words, **more):
 
 def build():
     os.makedirs(OUT, exist_ok=True)
-    with open(SHAPES, "w") as f:
-        f.write(run(sys.executable, os.path.join(ROOT, "bench", "shapes.py")))
+    for path, words in ((SHAPES, []), (REFUSED, ["refused"])):
+        with open(path, "w") as f:
+            f.write(run(sys.executable, os.path.join(ROOT, "bench", "shapes.py"), *words))
     own = os.path.join(OUT, "memory.o")
     run("gcc", "-O3", "-fno-builtin", "-fno-tree-loop-distribute-patterns", "-c", os.path.join(ROOT, "bench", "memory.c"), "-o", own)
-    sources = [os.path.join(ROOT, "bench", f) for f in ("calls.c", "stack.c")]
-    run("gcc", "-O2", "-Wall", "-I" + os.path.join(ROOT, "include"), *sources, own, LIB, "-o", os.path.join(OUT, "calls"))
+    for program in ("calls", "cases"):
+        sources = [os.path.join(ROOT, "bench", f) for f in (program + ".c", "stack.c")]
+        run("gcc", "-O2", "-Wall", "-I" + os.path.join(ROOT, "include"), *sources, own, LIB, "-o", os.path.join(OUT, program))
 
 
-def instructions(function, program, line, call):
+def header(name):
+    """A size that include/covenant.h names."""
+    with open(os.path.join(ROOT, "include", "covenant.h")) as f:
+        return int(re.search(r"#define %s (\d+)" % name, f.read()).group(1))
+
+
+def instructions(function, *program):
     """Of one call, counted by callgrind over ten."""
-    out = os.path.join(OUT, "%s.%d" % (function, line))
-    words = ["valgrind", "--tool=callgrind", "--toggle-collect=" + function, "--callgrind-out-file=" + out, program, SHAPES, str(line), str(call)]
-    run(*words)
+    out = os.path.join(OUT, "-".join([function] + [os.path.basename(w) for w in program]))
+    run("valgrind", "--tool=callgrind", "--toggle-collect=" + function, "--callgrind-out-file=" + out, *program)
     with open(out) as f:
         n = [int(m.group(1)) for m in re.finditer(r"^(?:summary|totals): (\d+)", f.read(), re.M)][-1]
     os.remove(out)
@@ -52,91 +64,160 @@ def own():
     return rows
 
 
+def turned_down():
+    """{(shape, tokens): (stack of Decode, of Decode over records, ns of Decode)} of token lists that Decode refuses"""
+    rows = {}
+    for l in run(os.path.join(OUT, "calls"), "refused", REFUSED).splitlines():
+        shape, tokens, *figures = l.split()
+        rows[shape.replace("_", " "), int(tokens)] = tuple(map(int, figures))
+    return rows
+
+
+def commands():
+    """The number of commands of each line's condition."""
+    counts = []
+    for l in open(SHAPES):
+        code, at, n = bytes.fromhex(l.split()[2]), 0, 0
+        while at < len(code):
+            at += {1: 9, 16: 9, 32: 41, 33: 41}.get(code[at], 1)
+            n += 1
+        counts.append(n)
+    return counts
+
+
 def both(rows):
-    """{(shape, size): (tokens, ns of ours, of theirs, instructions of ours, of theirs)}"""
+    """{(shape, size): (tokens, ns of ours, of theirs, instructions of ours, of theirs, commands)}"""
     run(os.path.join(ROOT, "tests", "compare", "build.sh"), os.path.join(ROOT, "target", "compare"))
     ours, theirs = os.path.join(OUT, "calls"), os.path.join(ROOT, "target", "compare", "bench")
     times = [[int(f) for f in l.split()[2:]] for l in run(theirs, SHAPES).splitlines()]
     with concurrent.futures.ThreadPoolExecutor(os.cpu_count()) as pool:
-        a = [[pool.submit(instructions, OURS[c], ours, n, c) for c in range(4)] for n in range(len(times))]
-        b = [[pool.submit(instructions, THEIRS[c], theirs, n, c) for c in range(4)] for n in range(len(times))]
+        a = [[pool.submit(instructions, OURS[c], ours, SHAPES, str(n), str(c)) for c in range(4)] for n in range(len(times))]
+        b = [[pool.submit(instructions, THEIRS[c], theirs, SHAPES, str(n), str(c)) for c in range(4)] for n in range(len(times))]
     result = lambda jobs: [j.result() for j in jobs]
-    return {k: (rows[k][0], rows[k][2], times[n], result(a[n]), result(b[n])) for n, k in enumerate(rows)}
+    return {k: (rows[k][0], rows[k][2], times[n], result(a[n]), result(b[n]), m) for n, (k, m) in enumerate(zip(rows, commands()))}
 
 
 def shapes(rows):
     return list(dict.fromkeys(s for s, _ in rows))
 
 
-def memory(rows):
+def paragraph(text):
+    return textwrap.wrap(text, 160) + [""]
+
+
+def memory(rows, refused, cases):
     sections = {}
     for l in run("size", "-A", LIB).splitlines():
         m = re.match(r"\.(text|rodata|data|bss)\S*\s+(\d+)", l)
         if m:
             sections[m.group(1)] = sections.get(m.group(1), 0) + int(m.group(2))
     text, rodata = sections.get("text", 0), sections.get("rodata", 0)
-    worst = [max(r[1][c] for r in rows.values()) for c in range(6)]
+    worst = [max([cases[c]] + [r[1][c] for r in rows.values()]) for c in range(6)]
+    for c, k in ((3, 0), (5, 1)):
+        worst[c] = max([worst[c]] + [r[k] for r in refused.values()])
+    code, records, oracles = header("COVENANT_MAX_CODE"), header("COVENANT_MAX_TOKENS"), header("COVENANT_MAX_ORACLES")
+    keys = ("%d keys" % oracles, oracles * 32)
+    slices, structs = ("%d records in three slices" % records, records * 13), ("%d records" % records, records * 24)
     lent = {
-        "Check": [("code", 9216)],
-        "Evaluate": [("code", 9216), ("checks of 73 oracle terminals", 112 * 73), ("their witness and its ends", 73 * (80 + 12)), ("four lists of 256 slots", 4 * 256 * 9)],
-        "Write": [("code", 9216), ("1,024 records in three slices", 1024 * 13), ("73 keys", 73 * 32)],
-        "Decode": [("1,024 records in three slices", 1024 * 13), ("73 keys", 73 * 32), ("code", 9216)],
-        "Write, records": [("code", 9216), ("1,024 records", 1024 * 24), ("73 keys", 73 * 32)],
-        "Decode, records": [("1,024 records", 1024 * 24), ("73 keys", 73 * 32), ("code", 9216)],
+        "Check": [("code", code)],
+        "Evaluate": [("code", code), ("checks of %d oracle terminals" % oracles, 112 * oracles), ("their witness and its ends", (80 + 12) * oracles),
+                     ("four lists of %d slots" % SLOTS, 4 * SLOTS * 9)],
+        "Write": [("code", code), slices, keys],
+        "Decode": [slices, keys, ("code", code)],
+        "Write, records": [("code", code), structs, keys],
+        "Decode, records": [structs, keys, ("code", code)],
     }
-    out = ["# Memory", "", "Measured by `make bench` on x86-64; the unit has 512 KiB for everything. Figures are bytes.", ""]
+    out = ["# Memory", "", "Measured by `make bench` on x86-64. The unit has %d KiB for everything. Figures are bytes." % (UNIT_BYTES >> 10), ""]
     out += ["The archive has %d bytes of code and %d of constants, and no data of its own: nothing is allocated or kept between calls." % (text, rodata), ""]
-    out += ["## Each call at its worst", "", "Stack is the high-water mark of a painted stack over all conditions that are measured. What the caller lends is what the largest condition asks for.", ""]
-    out += ["| call | stack | lent | sum with the archive | of 512 KiB |", "|---|---|---|---|---|"]
+    out += ["## Each call at its worst", ""]
+    out += paragraph("Stack is the high-water mark of a painted stack over the conditions and the token lists below, and over every case of crates/vectors, refused or not. Only Decode "
+                     "has functions that call themselves: its readers, at most once for each token and once more. The token lists of the last table take them as deep as that. The proofs "
+                     "say nothing about the stack: who calls must have what stands here.")
+    out += paragraph("Lent is what the caller provides for the largest condition. Amounts: %d slots a list are assumed, and a transaction with more asks for more. Decode takes as many "
+                     "key bytes as the caller has; %d keys are those of the largest condition." % (SLOTS, oracles))
+    out += ["| call | stack | lent | sum with the archive | of %d KiB |" % (UNIT_BYTES >> 10), "|---|---|---|---|---|"]
     for c, name in enumerate(STACKS):
         n = sum(k for _, k in lent[name])
         what = ", ".join("%s %d" % p for p in lent[name])
         total = worst[c] + n + text + rodata
-        out.append("| %s | %d | %d (%s) | %d | %.0f%% |" % (name, worst[c], n, what, total, 100 * total / 2**19))
+        out.append("| %s | %d | %d (%s) | %d | %.0f%% |" % (name, worst[c], n, what, total, 100 * total / UNIT_BYTES))
     out += ["", "## Stack by condition", "", "| condition | tokens | " + " | ".join(STACKS) + " |", "|---" * 8 + "|"]
     for s in shapes(rows):
         for size in (256, 512, 1024):
             tokens, stack = rows[s, size][:2]
             out.append("| %s | %d | %s |" % (s, tokens, " | ".join(map(str, stack))))
+    out += ["", "## Stack of Decode on token lists that it refuses", ""]
+    out += paragraph("Each list is an operation of one token, repeated and without an operand, before Equal or, for an index step, before InpValue, Num 1, Equal, Verify, Equal. The "
+                     "answer is 11. The first token is of the kind, among all 36, that takes most.")
+    out += ["| repeated | tokens | Decode | Decode, records |", "|---|---|---|---|"]
+    out += ["| %s | %d | %d | %d |" % (s, n, *r[:2]) for (s, n), r in refused.items()]
     write("MEMORY.md", out)
 
 
-# Why a ratio is above 1, for the table's reader.
-ABOVE = [
-    "## What is above 1.00, and why",
-    "",
-    "- Check: `Arith::new` judges the oracle rule of a tree that is there, and does not go into index expressions; ours reads every command, its operands and its need, and counts tokens. It takes",
-    "  22 to 33 instructions a command.",
-    "- Evaluate: the Rust goes over a tree that was built and judged before. Ours is given bytes that may be anything, so that each call has a Check in it, a third of its instructions or more; the rest is",
-    "  about 40 instructions a command. Conditions of 65 tokens and more also clear two operand stacks of 8 KiB, some 4,500 instructions, which is what the ratios at 100 tokens show.",
-    "- Write: a Check, the pass that marks, about 16 instructions a command, and the pass that writes, about 50 a command and 13 a record of three fields; the Rust writes bytes.",
-    "- Decode: above 1.00 for oracle terminals, and for index expressions that are small or have Mul and Div. Each production is met three times: by the readers, by the judge of the oracle rule, and when its code is written, because a refusal",
-    "  must not write; an oracle's ten tokens are compared each time.",
-    "",
-]
+# Why ours takes more where it does.
+WHY = {
+    "Check": "`Arith::new` judges the oracle rule of a tree that is there, and does not go into index expressions; ours reads every command with its operands, judges its need, and counts tokens.",
+    "Evaluate": "the Rust goes over a tree that was built and judged before; ours is given bytes that may be anything, so that each call has a Check in it. A condition with many tokens also has two "
+                "operand stacks of 1,024 to clear, which weighs most where it is not much longer than the conditions that get short ones.",
+    "Write": "it has a Check in it, then a pass that marks left operands of index Mul and Div, then the pass that writes records of three fields; the Rust writes bytes.",
+    "Decode": "a refusal must not write, so that a form is gone over three times: by the readers, by the judge of the oracle rule, and when its code is written.",
+}
 
 
-def speed(rows):
-    out = ["# Speed", "", "Measured by `make bench`, both sides in one run: the archive, and the published Rust over the stand-ins of tests/compare, compiled with -O. Instructions are those of one call,",
-           "counted by callgrind, memset and memcpy (bench/memory.c) included; a ratio is ours to the Rust's. The Rust's calls are `Arith::new`, `eval`, `push_to_builder` and `from_tokens`, of a",
-           "tree that is already built or to be built on the heap; ours take condition code or token records as they are lent, and check them on every call.", ""]
-    out += ABOVE
+def span(figures, form):
+    low, high = form % min(figures), form % max(figures)
+    return low if low == high else "%s to %s" % (low, high)
+
+
+def above(rows):
+    """For each call the conditions with a ratio above 1, and why there are such."""
+    whole = [rows[s, 1024] for s in shapes(rows)]
+    taken = {
+        "Check": "It takes %s instructions a command." % span([r[3][0] / r[5] for r in whole], "%.0f"),
+        "Evaluate": "Check is %s of the instructions; the rest takes %s a command." % (
+            span([100 * r[3][0] / r[3][1] for r in whole], "%.0f%%"), span([(r[3][1] - r[3][0]) / r[5] for r in whole], "%.0f")),
+        "Write": "What is not Check takes %s instructions a command." % span([(r[3][2] - r[3][0]) / r[5] for r in whole], "%.0f"),
+        "Decode": "It takes %s instructions a token." % span([r[3][3] / r[0] for r in whole], "%.0f"),
+    }
+    out = ["## What is above 1.00, and why", "", "Instructions a command or token are those of the conditions of about 1,024 tokens.", ""]
+    for c, name in enumerate(CALLS):
+        over = {}
+        for (s, _), r in rows.items():
+            if r[3][c] / r[4][c] > 1.005:
+                over.setdefault(s, []).append(r[3][c] / r[4][c])
+        told = "; ".join("%s %s" % (s, span(ratios, "%.2f")) for s, ratios in over.items()) or "nothing"
+        out += textwrap.wrap("- %s: %s %s Above 1.00: %s." % (name, WHY[name], taken[name], told), 160, subsequent_indent="  ")
+    return out + [""]
+
+
+def speed(rows, refused):
+    out = ["# Speed", ""]
+    out += paragraph("Measured by `make bench`, both sides in one run: the archive, and the published Rust over the stand-ins of tests/compare, compiled with -O. Instructions are those of "
+                     "one call, counted by callgrind, memset and memcpy (bench/memory.c) included; a ratio is ours to the Rust's. The Rust's calls are `Arith::new`, `eval`, "
+                     "`push_to_builder` and `from_tokens`, of a tree that is already built or to be built on the heap; ours take condition code or token records as they are lent, and "
+                     "check them on every call.")
+    out += above(rows)
     for c, name in enumerate(CALLS):
         out += ["## " + name, "", "| condition | tokens | ours | Rust | ratio | ns ours | ns Rust |", "|---|---|---|---|---|---|---|"]
         for s in shapes(rows):
-            for size in (12, 100, 1024):
-                tokens, mine, ns, a, b = rows[s, size]
+            for size in SIZES if s.startswith("index") else (12, 100, 1024):
+                tokens, mine, ns, a, b = rows[s, size][:5]
                 out.append("| %s | %d | %.0f | %.0f | %.2f | %d | %d |" % (s, tokens, a[c], b[c], a[c] / b[c], mine[c], ns[c]))
         out.append("")
     out += ["## Growth", "", "Instructions a token at 1,024 tokens over those at 256: 1.00 is linear.", "", "| condition | " + " | ".join(CALLS) + " |", "|---|---|---|---|---|"]
     for s in shapes(rows):
         small, large = rows[s, 256], rows[s, 1024]
         out.append("| %s | %s |" % (s, " | ".join("%.2f" % (large[3][c] / large[0] / (small[3][c] / small[0])) for c in range(4))))
-    out += ["", "## Against 200 ms", "", "The slowest condition that was measured for each call, at one instruction a nanosecond.", "", "| call | condition | instructions | ms |", "|---|---|---|---|"]
+    out += ["", "## Against %d ms" % UNIT_MS, ""]
+    out += paragraph("A call of the unit may take %d ms. The slowest that was measured of each call, at one instruction a nanosecond; Decode also on the token lists that docs/MEMORY.md "
+                     "names." % UNIT_MS)
+    out += ["| call | given | instructions | ms |", "|---|---|---|---|"]
     for c, name in enumerate(CALLS):
-        s, size = max(rows, key=lambda k: rows[k][3][c])
-        n = rows[s, size][3][c]
-        out.append("| %s | %s, %d tokens | %.0f | %.2f |" % (name, s, rows[s, size][0], n, n / 1e6))
+        given = {"%s, %d tokens" % (s, r[0]): r[3][c] for (s, _), r in rows.items()}
+        if name == "Decode":
+            given.update({"%s (refused), %d tokens" % k: n for k, n in refused.items()})
+        most = max(given, key=given.get)
+        out.append("| %s | %s | %.0f | %.2f |" % (name, most, given[most], given[most] / 1e6))
     write("SPEED.md", out)
 
 
@@ -147,9 +228,10 @@ def write(name, lines):
 
 if __name__ == "__main__":
     build()
-    rows = own()
-    memory(rows)
+    rows, refused = own(), turned_down()
+    memory(rows, refused, [int(n) for n in run(os.path.join(OUT, "cases"), CASES).split()])
     if os.environ.get("RUST_SOURCE"):
-        speed(both(rows))
+        counted = {k: instructions("covenant_decode", os.path.join(OUT, "calls"), "refused", REFUSED, str(n)) for n, k in enumerate(refused)}
+        speed(both(rows), counted)
     else:
         print("RUST_SOURCE is not set, so the published Rust was not measured and docs/SPEED.md stays as it is")

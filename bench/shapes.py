@@ -1,11 +1,13 @@
 #!/usr/bin/env python3
 """shapes.py: prints the conditions that are measured, a line each: shape, tokens, code in hex. Left-deep chains of add, and, index steps and oracles, and the deepest
-nestings: Invert, And and index Add nested to the right, index Add nested to the left."""
+nestings: Invert, And and index Add nested to the right, index Add nested to the left.
+shapes.py refused: prints token lists that Decode refuses with 11, a line each: shape, tokens, kinds in hex; every Num is 1. An operation of one token that finds no
+operand is what takes Decode's readers deepest: they call themselves once for each token."""
 import os
 import sys
 
 sys.path.insert(0, os.path.join(os.path.dirname(os.path.abspath(__file__)), "..", "tests", "vectors"))
-from model import code_of, form
+from model import ADD, AND, EQUAL, INP_VALUE, INVERT, NUM, OR, SUB, VERIFY, XOR, code_of, form
 
 ONE = (16, 1)
 KEY = bytes([7] * 32)
@@ -30,6 +32,24 @@ SHAPES = {
     "index left": lambda n: (18, chain((1, 0), lambda t, i: (3, t, (1, 0)), n)),
 }
 
+# Operations of one token, and what stands after them: `Equal` takes a value off, an amount's four tokens an index.
+ON_VALUES = [EQUAL]
+ON_INDEXES = [INP_VALUE, NUM, EQUAL, VERIFY, EQUAL]
+REFUSED = {
+    "Invert alone": (INVERT, ON_VALUES),
+    "And alone": (AND, ON_VALUES),
+    "Or alone": (OR, ON_VALUES),
+    "Xor alone": (XOR, ON_VALUES),
+    "index Add alone": (ADD, ON_INDEXES),
+    "index Sub alone": (SUB, ON_INDEXES),
+}
+
+
+def refused(shape, n):
+    """Kinds of n tokens: the operation as often as there is room, without an operand."""
+    kind, after = REFUSED[shape]
+    return bytes([kind] * (n - len(after)) + after)
+
 
 def longest(shape, most):
     """The longest chain of at most so many tokens, with `Eq` and a constant after it."""
@@ -42,6 +62,11 @@ def longest(shape, most):
 
 if __name__ == "__main__":
     sys.setrecursionlimit(10000)
+    if sys.argv[1:] == ["refused"]:
+        for shape in REFUSED:
+            for n in (256, 512, 1024):
+                print(shape.replace(" ", "_"), n, refused(shape, n).hex())
+        sys.exit()
     for shape in SHAPES:
         for most in (12, 100, 256, 512, 1024):
             t = longest(shape, most)

@@ -1,11 +1,21 @@
-/* The covenant core of the signing unit: check, evaluate, write and read spending conditions. C's view of libcovenant.a.
+/* The covenant core of the signing unit: check, evaluate, write and read spending conditions. C's view of libcovenant.a, which is compiled for x86-64 with the
+ * System V calling convention: 64-bit pointers and sizes, little-endian.
  *
- * A slice is a pointer and a number of elements; a null pointer with 0 elements is an empty slice. Lent slices must not overlap where one of them is written.
- * Nothing is kept after a call, nothing is allocated, and no call fails to return: bad input is answered with a refusal.
+ * "Document 01" is the specification, "Covenant conditions in the signing unit". It has the bytes of condition code and the kinds of tokens. What each refusal
+ * means, with an example: docs/OPERATORS.md.
  *
- * `number` is 0 for success, else the refusal's number. `place` is refusal 2's offset or refusal 9's record. `first` and `second` are a refusal's data in
- * document 01's order, signed operands as their 64 bits. Fields that an answer does not name are 0; `left` apart, which is always the number of witness
- * elements left. The archive needs memset and memcpy and nothing else. */
+ * A slice is a pointer and a number of elements. With 0 elements the pointer may be null. Else it must not be null, must be aligned as its type asks (bytes: at any
+ * address; ends and places: 4; amounts, numbers and records: 8), and all its elements must be there. A slice that a call writes must not overlap another slice of
+ * that call, and nothing else may change a lent slice while the call runs. These are the caller's duties; a call does not test them. Everything else is tested: any bytes
+ * and numbers in the slices get an answer.
+ *
+ * Nothing is allocated and nothing is kept between calls. So calls may run at the same time, as long as none of them writes a slice that another one uses. A call that is
+ * given the stack that docs/MEMORY.md says always returns. Decode takes the most stack, and its stack grows with the number of tokens. Time grows with the number of
+ * commands or tokens: docs/SPEED.md. The archive needs memset and memcpy and nothing else.
+ *
+ * `number` is 0 for success, else the refusal's number. `place` is refusal 2's offset or refusal 9's record. In covenant_evaluated, `first` and `second` are the
+ * refusal's data in document 01's order, refusal 2's offset in `first`; signed operands are given as their 64 bits. Fields that an answer does not name are 0, but for
+ * `left`, which always is the number of witness elements left. Padding has no meaning. */
 #ifndef COVENANT_H
 #define COVENANT_H
 
@@ -21,11 +31,13 @@ typedef struct { uint32_t number; uint32_t verdict; uint64_t first, second; uint
 typedef struct { uint32_t number; uint64_t place; uint64_t records, key_bytes; } covenant_written;
 typedef struct { uint32_t number; uint64_t place; uint64_t code_bytes, start; } covenant_decoded;
 
-/* One token: 24 bytes. `number` counts for kinds 1 and 2, `place` (in the key bytes) for kind 3. */
+/* One token: 24 bytes. `number` counts for kinds 1 (Num) and 2 (Bytes8), `place` for kind 3 (Bytes32): where its 32 bytes begin in the key bytes. Else Decode ignores
+ * them and Write writes 0. The same holds of the slices of numbers and places. */
 typedef struct { uint8_t kind; uint64_t number; uint32_t place; } covenant_record;
 
-/* Sizes that are always enough: bytes of condition code, token records, and oracle terminals, of 32 key bytes and a check of 112 bytes each. A condition that passes has
- * at most one PriceOracle1, of 10 tokens; each further terminal takes 13, with a token more for the operation that joins it. */
+/* Sizes that are always enough for one condition: COVENANT_MAX_CODE bytes of code, COVENANT_MAX_TOKENS records, and COVENANT_MAX_ORACLES oracle terminals, each with
+ * 32 key bytes and a check of 112 bytes. Where the oracle rule is kept, at most one terminal is a PriceOracle1, of 10 tokens; each further one takes 13, and one for the
+ * operation that joins it. */
 #define COVENANT_MAX_CODE 9216
 #define COVENANT_MAX_TOKENS 1024
 #define COVENANT_MAX_ORACLES 73
@@ -33,10 +45,17 @@ typedef struct { uint8_t kind; uint64_t number; uint32_t place; } covenant_recor
 /* Whether bytes are condition code within the bounds that keeps the oracle rule. Refusals 1 to 5. Writes nothing. */
 covenant_checked covenant_check(const uint8_t *code, size_t code_count);
 
-/* Evaluates a condition. Lent: four lists of amounts with a mark each (1 explicit, 0 not), spent, issued and reissued of equal length; the index of the input;
- * the witness as bytes and the ends of its elements, bottom first; a buffer for checks of 112 bytes each (key, time, price, signature), which the host verifies.
- * Refusals 1 to 5, 8, 12, 7, then 20 to 41 in evaluation order. `verdict` is 1 for true. The first 112 * checks bytes of the buffer are written, whether
- * the answer is a refusal or not, and no byte after them. */
+/* Evaluates a condition for one input of a transaction. Lent are
+ *   - four lists, with a mark for each number (1 explicit, 0 not or none): the amount that each input spends, the amount of each output, the amount that each input
+ *     issues, and the number of reissuance keys that each input issues. The lists of inputs, spent, issued and reissued, have equal length;
+ *   - the index of the input, counted from 0;
+ *   - the witness: the bytes of its elements, bottom first, and where each of them ends. An oracle terminal takes three elements off the top: the price (8 bytes),
+ *     then the time (8), then the signature (64). So they are lent as signature, time, price, those of the first terminal last;
+ *   - a buffer with 112 bytes for each oracle terminal of the condition.
+ * A check is 112 bytes: key (32), the terminal's time (8), price (8), signature (64). Checks stand in the order in which the terminals are evaluated. The host verifies
+ * each of them; the verdict counts only if all hold. Prices and times are little-endian.
+ * Refusals 1 to 5, 8, 12, 7, then 20 to 41 in evaluation order. `verdict` is 1 for true, 0 for false. The first 112 * `checks` bytes of the buffer are written, after a
+ * refusal too, and no byte after them. */
 covenant_evaluated covenant_evaluate(
     const uint8_t *code, size_t code_count,
     const uint64_t *spent, size_t spent_count, const uint8_t *spent_marks, size_t spent_marks_count,
@@ -46,8 +65,8 @@ covenant_evaluated covenant_evaluate(
     uint64_t current, const uint8_t *witness, size_t witness_count, const uint32_t *ends, size_t ends_count,
     uint8_t *checks, size_t checks_count);
 
-/* Writes the token form of a condition: kinds, numbers and places of `records` tokens, and each key at the place that its record names in the first
- * `key_bytes` bytes of the keys. Refusals 1 to 5, 6, 7. A refusal writes nothing, and nothing is written beyond what is reported. */
+/* Writes the token form of a condition, at the front of the slices: kinds, numbers and places of `records` tokens, and each key at the place that its record names in
+ * the first `key_bytes` bytes of the keys. Refusals 1 to 5, 6, 7. A refusal writes nothing, and nothing is written beyond what is reported. */
 covenant_written covenant_write(
     const uint8_t *code, size_t code_count, uint8_t *kinds, size_t kinds_count, uint64_t *numbers, size_t numbers_count,
     uint32_t *places, size_t places_count, uint8_t *keys, size_t keys_count);
@@ -59,7 +78,7 @@ covenant_decoded covenant_decode(
     const uint8_t *kinds, size_t kinds_count, const uint64_t *numbers, size_t numbers_count, const uint32_t *places, size_t places_count,
     const uint8_t *keys, size_t keys_count, uint8_t *code, size_t code_count);
 
-/* The same two over token records. */
+/* The same two over token records, of which only the three fields are written. */
 covenant_written covenant_write_records(
     const uint8_t *code, size_t code_count, covenant_record *records, size_t records_count, uint8_t *keys, size_t keys_count);
 covenant_decoded covenant_decode_records(

@@ -46,7 +46,7 @@ static void check(void) {
     expect(a.number == 2 && a.place == 0, "check: no code");
     a = covenant_check(five, 9);
     expect(a.number == 2 && a.place == 9, "check: a constant alone");
-    static const uint8_t long_code[9217];
+    static const uint8_t long_code[COVENANT_MAX_CODE + 1];
     a = covenant_check(long_code, sizeof long_code);
     expect(a.number == 1 && a.place == 0, "check: code that is too long");
 }
@@ -88,11 +88,17 @@ static void evaluate(void) {
     marks[0] = 2;
     a = AT(code, 0, witness, ends, 3, buffer, 112);
     expect(a.number == 8 && a.left == 3 && kept(buffer, 0, sizeof buffer), "evaluate: a mark of 2");
+
+    /* null pointers with a count of 0 */
+    a = covenant_evaluate(five, sizeof five, 0, 0, 0, 0, 0, 0, 0, 0, 0, 0, 0, 0, 0, 0, 0, 0, 0, 0, 0, 0, 0, 0, 0);
+    expect(a.number == 0 && a.verdict == 1 && a.checks == 0 && a.left == 0, "evaluate: no inputs, no witness, no buffer");
+    a = covenant_evaluate(less_one, sizeof less_one, 0, 0, 0, 0, 0, 0, 0, 0, 0, 0, 0, 0, 0, 0, 0, 0, 1, 0, 0, 0, 0, 0, 0);
+    expect(a.number == 20 && a.first == 0 && a.second == 0, "evaluate: an amount where there are no inputs");
 }
 
 /* Twelve tokens; what is lent has two records and 8 key bytes more than are written. */
 static void write_and_decode(void) {
-    uint8_t code[51], kinds[14], keys[40], back[9216 + 8];
+    uint8_t code[51], kinds[14], keys[40], back[COVENANT_MAX_CODE + 8];
     uint64_t numbers[14];
     uint32_t places[14];
     oracle_code(code);
@@ -100,10 +106,11 @@ static void write_and_decode(void) {
     memset(numbers, FILL, sizeof numbers);
     memset(places, FILL, sizeof places);
     memset(keys, FILL, sizeof keys);
+#define ALL_KEPT (kept(kinds, 0, sizeof kinds) && kept(numbers, 0, sizeof numbers) && kept(places, 0, sizeof places) && kept(keys, 0, sizeof keys))
     covenant_written w = covenant_write(code, sizeof code, kinds, 11, numbers, 14, places, 14, keys, 40);
-    expect(w.number == 7 && w.records == 0 && kept(kinds, 0, sizeof kinds) && kept(keys, 0, sizeof keys), "write: too few records");
+    expect(w.number == 7 && w.records == 0 && ALL_KEPT, "write: too few records");
     w = covenant_write(code, sizeof code, kinds, 14, numbers, 14, places, 14, keys, 31);
-    expect(w.number == 7 && kept(kinds, 0, sizeof kinds) && kept(keys, 0, sizeof keys), "write: too few key bytes");
+    expect(w.number == 7 && w.records == 0 && ALL_KEPT, "write: too few key bytes");
     w = covenant_write(code, sizeof code, kinds, 14, numbers, 14, places, 14, keys, 40);
     static const uint8_t form[12] = {25, 26, 2, 28, 15, 32, 33, 3, 34, 27, 2, 14};
     expect(w.number == 0 && w.records == 12 && w.key_bytes == 32, "write: an oracle terminal");
@@ -112,26 +119,26 @@ static void write_and_decode(void) {
     expect(kept(kinds, 12, 14) && kept(numbers, 12 * 8, sizeof numbers) && kept(places, 12 * 4, sizeof places) && kept(keys, 32, 40), "write: what is kept");
 
     memset(back, FILL, sizeof back);
-    covenant_decoded d = covenant_decode(kinds, 12, numbers, 12, places, 12, keys, 32, back, 9216);
+    covenant_decoded d = covenant_decode(kinds, 12, numbers, 12, places, 12, keys, 32, back, COVENANT_MAX_CODE);
     expect(d.number == 0 && d.code_bytes == sizeof code && d.start == 0 && !memcmp(back, code, sizeof code), "decode: what was written");
     expect(kept(back, sizeof code, sizeof back), "decode: what is kept");
     memset(back, FILL, sizeof back);
-    d = covenant_decode(kinds, 12, numbers, 12, places, 12, keys, 31, back, 9216);
+    d = covenant_decode(kinds, 12, numbers, 12, places, 12, keys, 31, back, COVENANT_MAX_CODE);
     expect(d.number == 9 && d.place == 7 && kept(back, 0, sizeof back), "decode: a key that is cut off");
-    d = covenant_decode(kinds, 12, numbers, 12, places, 12, keys, 32, back, 9215);
+    d = covenant_decode(kinds, 12, numbers, 12, places, 12, keys, 32, back, COVENANT_MAX_CODE - 1);
     expect(d.number == 7 && kept(back, 0, sizeof back), "decode: a short buffer");
-    d = covenant_decode(kinds, 11, numbers, 12, places, 12, keys, 32, back, 9216);
+    d = covenant_decode(kinds, 11, numbers, 12, places, 12, keys, 32, back, COVENANT_MAX_CODE);
     expect(d.number == 11 && kept(back, 0, sizeof back), "decode: no condition");
-    static const uint8_t many[1025];
-    d = covenant_decode(many, 1025, 0, 0, 0, 0, 0, 0, back, 9216);
+    static const uint8_t many[COVENANT_MAX_TOKENS + 1];
+    d = covenant_decode(many, COUNT(many), 0, 0, 0, 0, 0, 0, back, COVENANT_MAX_CODE);
     expect(d.number == 10 && kept(back, 0, sizeof back), "decode: too many records");
-    d = covenant_decode(0, 0, 0, 0, 0, 0, 0, 0, back, 9216);
+    d = covenant_decode(0, 0, 0, 0, 0, 0, 0, 0, back, COVENANT_MAX_CODE);
     expect(d.number == 11, "decode: no records");
 }
 
 static void records(void) {
     expect(sizeof(covenant_record) == 24, "a record is 24 bytes");
-    uint8_t code[51], keys[40], back[9216 + 8];
+    uint8_t code[51], keys[40], back[COVENANT_MAX_CODE + 8];
     covenant_record r[14];
     oracle_code(code);
     memset(r, FILL, sizeof r);
@@ -143,12 +150,47 @@ static void records(void) {
     expect(r[0].kind == 25 && r[2].kind == 2 && r[2].number == 5 && r[7].kind == 3 && r[7].place == 0 && r[11].kind == 14, "write_records: the form");
     expect(kept(r, 12 * sizeof *r, sizeof r) && kept(keys, 32, 40), "write_records: what is kept");
     memset(back, FILL, sizeof back);
-    covenant_decoded d = covenant_decode_records(r, 12, keys, 32, back, 9216);
+    covenant_decoded d = covenant_decode_records(r, 12, keys, 32, back, COVENANT_MAX_CODE);
     expect(d.number == 0 && d.code_bytes == sizeof code && d.start == 0 && !memcmp(back, code, sizeof code), "decode_records: what was written");
     expect(kept(back, sizeof code, sizeof back), "decode_records: what is kept");
-    static const covenant_record many[1025];
-    d = covenant_decode_records(many, COUNT(many), keys, 32, back, 9216);
-    expect(d.number == 10, "decode_records: too many records");
+    memset(back, FILL, sizeof back);
+    d = covenant_decode_records(r, 12, keys, 31, back, COVENANT_MAX_CODE);
+    expect(d.number == 9 && d.place == 7 && kept(back, 0, sizeof back), "decode_records: a key that is cut off");
+    static const covenant_record many[COVENANT_MAX_TOKENS + 1];
+    d = covenant_decode_records(many, COUNT(many), keys, 32, back, COVENANT_MAX_CODE);
+    expect(d.number == 10 && kept(back, 0, sizeof back), "decode_records: too many records");
+    d = covenant_decode_records(0, 0, 0, 0, back, COVENANT_MAX_CODE);
+    expect(d.number == 11 && kept(back, 0, sizeof back), "decode_records: no records");
+}
+
+/* n oracle terminals joined by BitAnd, Eq 9; the code's length. */
+static size_t terminals_code(uint8_t *code, size_t n) {
+    size_t at = 0;
+    for (size_t i = 0; i < n; i++) {
+        memset(code + at, 7, 41);
+        code[at] = i ? 33 : 32;
+        at += 41;
+        if (i) code[at++] = 27;
+    }
+    memset(code + at, 0, 10);
+    code[at] = 16, code[at + 1] = 9, code[at + 9] = 48;
+    return at + 10;
+}
+
+/* The sizes that the header names are enough for the most oracle terminals that there can be; one more is refused. */
+static void most_terminals(void) {
+    enum { MOST = COVENANT_MAX_ORACLES };
+    static uint8_t code[42 * (MOST + 1) + 10], witness[80 * MOST], checks[112 * MOST], kinds[COVENANT_MAX_TOKENS], keys[32 * MOST];
+    static uint64_t numbers[COVENANT_MAX_TOKENS];
+    static uint32_t places[COVENANT_MAX_TOKENS], ends[3 * MOST];
+    size_t n = terminals_code(code, MOST);
+    for (uint32_t i = 0; i < 3 * MOST; i++) ends[i] = 80 * (i / 3) + (i % 3 == 0 ? 64 : i % 3 == 1 ? 72 : 80);
+    covenant_evaluated e = covenant_evaluate(code, n, 0, 0, 0, 0, 0, 0, 0, 0, 0, 0, 0, 0, 0, 0, 0, 0, 0, witness, sizeof witness, ends, COUNT(ends), checks, sizeof checks);
+    expect(e.number == 0 && e.checks == MOST && e.left == 0, "evaluate: the most oracle terminals");
+    covenant_written w = covenant_write(code, n, kinds, COUNT(kinds), numbers, COUNT(numbers), places, COUNT(places), keys, sizeof keys);
+    expect(w.number == 0 && w.records <= COVENANT_MAX_TOKENS && w.key_bytes == sizeof keys, "write: the most oracle terminals");
+    n = terminals_code(code, MOST + 1);
+    expect(covenant_check(code, n).number == 3, "check: an oracle terminal too many");
 }
 
 int main(void) {
@@ -156,6 +198,7 @@ int main(void) {
     evaluate();
     write_and_decode();
     records();
+    most_terminals();
     if (!failures) puts("boundary: the calls from C agree");
     return failures != 0;
 }

@@ -1,8 +1,12 @@
 //! Calls the archive from Rust, on good and bad input.
 mod covenant;
-use covenant::{List, Record};
+use covenant::{List, Record, MAX_CODE, MAX_ORACLES, MAX_TOKENS};
 
 fn main() {
+    let header = include_str!("../../include/covenant.h");
+    for (name, n) in [("CODE", MAX_CODE), ("TOKENS", MAX_TOKENS), ("ORACLES", MAX_ORACLES)] {
+        assert!(header.contains(&format!("#define COVENANT_MAX_{name} {n}\n")), "the header's {name}");
+    }
     let five = [16, 5, 0, 0, 0, 0, 0, 0, 0, 16, 5, 0, 0, 0, 0, 0, 0, 0, 48];
     assert_eq!(covenant::check(&five), covenant::Checked { number: 0, place: 0 });
     assert_eq!(covenant::check(&five[..9]), covenant::Checked { number: 2, place: 9 });
@@ -20,7 +24,7 @@ fn main() {
     assert_eq!((w.number, w.records, w.key_bytes), (0, 3, 0));
     assert_eq!((kinds, numbers, places, keys), ([2, 2, 14, 9], [5, 5, 0, 9], [0, 0, 0, 9], [9]));
 
-    let mut code = [0xa5; 9217];
+    let mut code = [0xa5; MAX_CODE + 1];
     let d = covenant::decode(&kinds[..3], &numbers, &places, &[], &mut code);
     assert_eq!((d.number, d.code_bytes, d.start), (0, 19, 0));
     assert!(code[..19] == five && code[19..].iter().all(|b| *b == 0xa5));
@@ -36,7 +40,7 @@ fn main() {
     assert_eq!((records, keys), ([token(2, 5), token(2, 5), token(14, 0), unset], [9]));
     code.fill(0xa5);
     assert_eq!(covenant::decode_records(&records, &[], &mut code).number, 11);
-    assert_eq!(covenant::decode_records(&records[..3], &[], &mut code[..9215]).number, 7);
+    assert_eq!(covenant::decode_records(&records[..3], &[], &mut code[..MAX_CODE - 1]).number, 7);
     assert!(code.iter().all(|b| *b == 0xa5));
     let d = covenant::decode_records(&records[..3], &[], &mut code);
     assert_eq!((d.number, d.code_bytes, d.start), (0, 19, 0));

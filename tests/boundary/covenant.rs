@@ -1,6 +1,11 @@
 //! Rust's view of libcovenant.a. A slice is passed as a pointer and a number of elements.
 #![allow(dead_code)]
 
+/// The sizes that the header names.
+pub const MAX_CODE: usize = 9216;
+pub const MAX_TOKENS: usize = 1024;
+pub const MAX_ORACLES: usize = 73;
+
 #[repr(C)]
 #[derive(Clone, Copy, Debug, PartialEq)]
 pub struct Checked {

@@ -54,7 +54,7 @@ fn least<T>(once: bool, mut make: impl FnMut() -> T, mut f: impl FnMut(T)) -> f6
         .fold(f64::MAX, f64::min)
 }
 
-fn row(shape: &str, code: &[u8], only: Option<usize>) -> [f64; 4] {
+fn row(code: &[u8], only: Option<usize>) -> [f64; 4] {
     let c = tree(code).unwrap();
     let amount = Amount::Explicit(1);
     let spent = vec![TxOut { value: amount }; 4];
@@ -64,8 +64,7 @@ fn row(shape: &str, code: &[u8], only: Option<usize>) -> [f64; 4] {
     };
     let env = TxEnv::new(&tx, &spent, 1).unwrap();
     let (sig, time, price) = ([5u8; 64], 3u64.to_le_bytes(), 1u64.to_le_bytes());
-    let terminals = if shape == "oracle" { code.len() / 41 } else { 0 };
-    let stack = Stack::from((0..3 * terminals).map(|i| Element::from([&sig[..], &time, &price][i % 3])).collect::<Vec<_>>());
+    let stack = Stack::from((0..3 * terminals(code)).map(|i| Element::from([&sig[..], &time, &price][i % 3])).collect::<Vec<_>>());
     let script = c.push_to_builder(Builder::new()).into_script();
     let tokens = lex(&script).unwrap();
     assert!(SpkExpr::from_tokens(&tokens) == Some((c.clone(), 0)));
@@ -106,11 +105,11 @@ fn run() {
         let code: Vec<u8> = (0..f[2].len()).step_by(2).map(|i| u8::from_str_radix(&f[2][i..i + 2], 16).unwrap()).collect();
         match pick {
             Some((at, call)) if at == n => {
-                row(f[0], &code, Some(call));
+                row(&code, Some(call));
             }
             Some(_) => (),
             None => {
-                let [a, b, c, d] = row(f[0], &code, None);
+                let [a, b, c, d] = row(&code, None);
                 println!("{} {} {a:.0} {b:.0} {c:.0} {d:.0}", f[0], f[1]);
             }
         }

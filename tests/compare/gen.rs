@@ -131,21 +131,6 @@ fn witness(r: &mut Random, terminals: usize) -> String {
     if all.is_empty() { "-".into() } else { all.join(",") }
 }
 
-/// The commands 32 and 33 of a code.
-fn terminals(code: &[u8]) -> usize {
-    let (mut at, mut n) = (0, 0);
-    while at < code.len() {
-        let c = code[at];
-        n += (c == 32 || c == 33) as usize;
-        at += match c {
-            1 | 16 => 9,
-            32 | 33 => 41,
-            _ => 1,
-        };
-    }
-    n
-}
-
 fn form(code: &[u8]) -> Option<Vec<Record>> {
     let script = tree(code).ok()?.push_to_builder(elements::script::Builder::new()).into_script();
     Some(lex(&script).ok()?.iter().map(record).collect())

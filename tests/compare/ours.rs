@@ -1,5 +1,5 @@
 // Our answers to the same lines, from the archive. Buffers have the room that the calls ask for, and a byte more, which must be kept.
-use crate::covenant::{self, List};
+use crate::covenant::{self, List, MAX_CODE, MAX_ORACLES, MAX_TOKENS};
 use crate::published::{hex, list, records, spell, unhex};
 use crate::common::Record;
 
@@ -23,7 +23,7 @@ pub fn evaluate(f: &[&str]) -> String {
         witness.extend(e);
         ends.push(witness.len() as u32);
     }
-    let mut checks = vec![0xa5; 112 * 103 + 1];
+    let mut checks = vec![0xa5; 112 * MAX_ORACLES + 1];
     let a = covenant::evaluate(&unhex(f[1]), &lists, f[2].parse().expect("index"), &witness, &ends, &mut checks);
     let n = 112 * a.checks as usize;
     assert!(checks[n..].iter().all(|b| *b == 0xa5), "bytes beyond the checks");
@@ -34,7 +34,7 @@ pub fn evaluate(f: &[&str]) -> String {
 }
 
 pub fn write(f: &[&str]) -> String {
-    let (mut kinds, mut numbers, mut places, mut keys) = (vec![0xa5; 1025], vec![5; 1025], vec![5; 1025], vec![0xa5; 32 * 103 + 1]);
+    let (mut kinds, mut numbers, mut places, mut keys) = (vec![0xa5; MAX_TOKENS + 1], vec![5; MAX_TOKENS + 1], vec![5; MAX_TOKENS + 1], vec![0xa5; 32 * MAX_ORACLES + 1]);
     let a = covenant::write(&unhex(f[1]), &mut kinds, &mut numbers, &mut places, &mut keys);
     let n = a.records as usize;
     assert!(kinds[n..].iter().all(|k| *k == 0xa5) && numbers[n..].iter().all(|k| *k == 5) && places[n..].iter().all(|k| *k == 5), "records beyond the count");
@@ -61,7 +61,7 @@ pub fn decode(f: &[&str]) -> String {
             keys.extend(data);
         }
     }
-    let mut code = vec![0xa5; 9217];
+    let mut code = vec![0xa5; MAX_CODE + 1];
     let a = covenant::decode(&kinds, &numbers, &places, &keys, &mut code);
     assert!(code[a.code_bytes as usize..].iter().all(|b| *b == 0xa5), "bytes beyond the code");
     if a.number != 0 { a.number.to_string() } else { format!("{} {}", a.start, hex(&code[..a.code_bytes as usize])) }

@@ -10,7 +10,8 @@ use elements::{AssetIssuance, Transaction, TxIn, TxOut};
 use elements_miniscript::extensions::{EvalError, ParseableExt, TxEnv};
 use elements_miniscript::interpreter::{Element, Stack};
 use elements_miniscript::miniscript::lex::{lex, TokenIter};
-use std::panic::{catch_unwind, AssertUnwindSafe};
+use std::panic::{catch_unwind, set_hook, take_hook, AssertUnwindSafe};
+use std::sync::atomic::{AtomicBool, Ordering::Relaxed};
 
 pub fn hex(b: &[u8]) -> String {
     if b.is_empty() {
@@ -65,6 +66,18 @@ fn numbers(e: &EvalError) -> (u64, u64, u64) {
     }
 }
 
+/// Whether a trap is an answer, and not to be printed.
+static EVALUATING: AtomicBool = AtomicBool::new(false);
+
+pub fn print_no_trap_of_eval() {
+    let print = take_hook();
+    set_hook(Box::new(move |p| {
+        if !EVALUATING.load(Relaxed) {
+            print(p)
+        }
+    }));
+}
+
 pub fn evaluate(f: &[&str]) -> String {
     let c = match tree(&unhex(f[1])) {
         Ok(c) => c,
@@ -80,7 +93,9 @@ pub fn evaluate(f: &[&str]) -> String {
     let mut stack = Stack::from(elements.iter().map(Element::from).collect::<Vec<_>>());
     bitcoin::forget();
     // An index step that leaves its range, or divides by 0, traps: document 01's 41.
+    EVALUATING.store(true, Relaxed);
     let answer = catch_unwind(AssertUnwindSafe(|| c.eval(&env, &mut stack)));
+    EVALUATING.store(false, Relaxed);
     let (n, a, b, verdict) = match answer {
         Err(_) => (41, 0, 0, 0),
         Ok(Ok(v)) => (0, 0, 0, v as u8),
@@ -99,9 +114,13 @@ pub fn form(code: &[u8]) -> Result<Vec<Record>, u64> {
 }
 
 pub fn write(f: &[&str]) -> String {
-    match form(&unhex(f[1])) {
+    let code = unhex(f[1]);
+    match form(&code) {
         Err(n) => n.to_string(),
-        Ok(tokens) => tokens.iter().map(spell).collect::<Vec<_>>().join(","),
+        Ok(all) => {
+            assert_eq!(all.len(), tokens(&code), "tokens counted by the commands");
+            all.iter().map(spell).collect::<Vec<_>>().join(",")
+        }
     }
 }
 

@@ -10,6 +10,7 @@ body, 4 bytes each; the parts. Numbers are little-endian, 8 bytes each unless sa
   Write     code; room of kinds, numbers, places and keys, number, place, records, key bytes; kinds; numbers; the key of each Bytes32
   Decode    kinds; numbers; places (4 bytes each); keys; room for code, number, place, code bytes, start; code
 """
+import concurrent.futures
 import os
 import random
 import struct
@@ -18,7 +19,7 @@ import threading
 from collections import Counter
 
 import model
-from model import BYTES8, BYTES32, MAX_CODE, MAX_TOKENS, NUM, code_of, form
+from model import BYTES8, BYTES32, MAX_CODE, MAX_ORACLES, MAX_TOKENS, NUM, code_of, form
 
 rng = random.Random(20)
 LEAST, GREATEST = -(2**63), 2**63 - 1
@@ -270,7 +271,7 @@ def evaluate(code, lists=None, current=None, lent=None, room=None):
         parts += [words(*numbers), bytes(marks)]
     parts += [witness, struct.pack("<%dI" % len(ends), *ends), words(current, room, *answer[:6]), answer[6]]
     cases.add(2, answer[0], parts)
-    return answer[0]
+    return answer
 
 
 def evaluations():
@@ -310,18 +311,20 @@ def evaluations():
 
 # ---- Write
 
-def write(code):
+def write(code, rooms=None, keys=None):
     try:
         n, k = len(form(model.parse(code))), 32 * model.oracles(model.parse(code))
     except model.Refused:
         n, k = 3, 0
-    rooms = [max(n + rng.choice([0, 0, 0, 0, 0, 1, 3, -1 if rng.random() < 0.2 else 0]), 0) for _ in range(3)]
-    keys = max(k + rng.choice([0, 0, 0, 0, 7, 40, -1]), 0)
-    rooms = [min(r, 1100) for r in rooms]
+    if rooms is None:
+        rooms = [max(n + rng.choice([0, 0, 0, 0, 0, 1, 3, -1 if rng.random() < 0.2 else 0]), 0) for _ in range(3)]
+        keys = max(k + rng.choice([0, 0, 0, 0, 7, 40, -1]), 0)
+        rooms = [min(r, 1100) for r in rooms]
     number, place, tokens, key_bytes = model.write(code, min(rooms), keys)
     parts = [code, words(*rooms, keys, number, place, len(tokens), key_bytes), bytes(t[0] for t in tokens)]
     parts += [words(*[t[1] if t[0] in (NUM, BYTES8) else 0 for t in tokens]), b"".join(t[1] for t in tokens if t[0] == BYTES32)]
     cases.add(3, number, parts)
+    return number, len(tokens), key_bytes
 
 
 # ---- Decode
@@ -348,6 +351,7 @@ def decode(kinds, numbers, places, keys, room=None):
     number, place, code, start = model.decode(kinds, numbers, places, keys, room)
     parts = [bytes(kinds), words(*numbers), struct.pack("<%dI" % len(places), *places), keys, words(room, number, place, len(code), start), code]
     cases.add(4, number, parts)
+    return number, place, len(code), start
 
 
 def token():
@@ -396,7 +400,7 @@ def decodings():
     forms = [form(small(condition())) for _ in range(900)]
     for f in forms:
         decode(*records(f))
-    for f in forms[:400]:  # strangers before the tail are passed over
+    for f in forms[:400]:  # other tokens before the tail are passed over
         decode(*records([token() for _ in range(rng.randrange(1, 6))] + f))
     for f in forms[:700]:
         decode(*records(altered(f)))
@@ -422,49 +426,108 @@ def decodings():
             decode(*records(form(t)))
     for _ in range(12):
         decode(*records([token() for _ in range(MAX_TOKENS + 1 + rng.randrange(3))]))
+    amount = [(22,), model.ONE, (14,), (15,)]
+    for op, after in ((21, []), (18, []), (19, []), (20, []), (5, amount), (6, amount)):  # operations of one token without an operand: the deepest readings there are
+        after = after + [(14,)]
+        decode(*records([(op,)] * (MAX_TOKENS - len(after)) + after))
 
 
-# ---- the smallest example of each refusal, as docs/OPERATORS.md tells it
+# ---- the smallest example of each number, and the worked example, as docs/OPERATORS.md tells them
+
+FIVE, NINE, KEY = const(5), const(9), bytes(range(1, 33))
+ONE_INPUT = [([7], [1]), ([8], [1]), ([0], [0]), ([0], [0])]
+HIDDEN = [([7], [0]), ([8], [0]), ([0], [0]), ([0], [0])]
+SIGNATURE, PRICE, EARLY, LATE = bytes(64), (9).to_bytes(8, "little"), (4).to_bytes(8, "little"), (6).to_bytes(8, "little")
+
+
+def told(got, wanted):
+    assert got == wanted, (got, wanted)
+
+
+def equals_five(x):
+    return code_of((48, x, FIVE))
+
+
+def elements(*es):
+    return b"".join(es), [sum(map(len, es[: k + 1])) for k in range(len(es))]
+
+
+def told_evaluation(number, code, lists=ONE_INPUT, lent=(b"", []), room=112):
+    told(evaluate(code, lists, 0, lent, room)[0], number)
+
 
 def examples():
-    five, nine = const(5), const(9)
-    eq = lambda x: code_of((48, x, five))
-    at = lambda c, i: eq((c, i))
-    one = [([7], [1]), ([8], [1]), ([0], [0]), ([0], [0])]
-    hidden = [([7], [0]), ([8], [0]), ([0], [0]), ([0], [0])]
-    none = lambda code, lists=one, current=0, lent=(b"", []), room=112: evaluate(code, lists, current, lent, room)
-    key = bytes(range(1, 33))
-    priced = eq((32, key, 5))
-    elements = lambda *es: (b"".join(es), [sum(map(len, es[: k + 1])) for k in range(len(es))])
-    price, late, sig = (9).to_bytes(8, "little"), (6).to_bytes(8, "little"), bytes(64)
-    told = (
-        (1, bytes(9217)), (2, b""), (3, code_of((48, inverts(1022, five), five))), (4, eq((33, key, 5))), (5, eq((22, five, (32, key, 5)))),
-    )
-    for number, code in told:
-        assert model.check(code)[0] == number
+    for number, code in (
+        (0, equals_five(FIVE)), (1, bytes(MAX_CODE + 1)), (2, b""), (3, equals_five(inverts(1022, FIVE))), (4, equals_five((33, KEY, 5))),
+        (5, equals_five((22, FIVE, (32, KEY, 5)))),
+    ):
+        told(model.check(code)[0], number)
         check(code)
-    write(at(18, (1, 2**32)))
-    assert model.write(at(18, (1, 2**32)), 9, 9)[0] == 6
-    wanted = [
-        (7, none(priced, room=111)), (8, none(eq(five), [([7], []), ([8], [1]), ([0], [0]), ([0], [0])])), (12, none(eq(five), lent=(b"", [1]))),
-        (20, none(at(18, (1, 1)))), (21, none(at(18, (1, 0)), hidden)), (22, none(at(19, (1, 1)))), (23, none(at(19, (1, 0)), hidden)),
-        (24, none(at(20, (1, 1)))), (25, none(at(20, (1, 0)))), (26, none(at(21, (1, 0)))),
-        (27, none(eq((22, const(GREATEST), const(1))))), (28, none(eq((23, const(LEAST), const(1))))), (29, none(eq((24, const(GREATEST), const(2))))),
-        (30, none(eq((25, nine, const(0))))), (31, none(eq((26, nine, const(0))))), (32, none(eq((31, const(LEAST))))),
-        (33, none(priced)), (34, none(priced, lent=elements(b"1234567"))), (35, none(priced, lent=elements(price))),
-        (36, none(priced, lent=elements(b"1234567", price))), (37, none(priced, lent=elements(price, price))),
-        (38, none(priced, lent=elements(bytes(63), late, price))), (39, none(priced, lent=elements(sig, late, price))),
-        (40, none(priced, lent=elements(sig, bytes(8), bytes([0] * 7 + [128])))), (41, none(at(18, (4, (2,), (1, 1))))),
-    ]
-    assert all(number == got for number, got in wanted), wanted
+    told(write(equals_five(FIVE), [3, 3, 3], 0), (0, 3, 0))
+    told(write(equals_five((18, (1, 2**32))), [9, 9, 9], 0)[0], 6)
+    told(write(equals_five(FIVE), [2, 3, 3], 0)[0], 7)
+    told(write(equals_five((32, KEY, 5)), [12, 12, 12], 31)[0], 7)
+    evaluation_examples()
+    oracle_examples()
+    decoding_examples()
+
+
+def evaluation_examples():
+    at = lambda c, i: equals_five((c, i))
+    first = (18, (1, 0))
+    for verdict, amount in ((1, 7), (0, 5)):  # the amount of input 0 is 7
+        told(evaluate(code_of((48, first, const(amount))), ONE_INPUT, 0, (b"", []), 0)[:2], (0, verdict))
+    told_evaluation(8, equals_five(FIVE), [([7], []), ([8], [1]), ([0], [0]), ([0], [0])])
+    told_evaluation(8, equals_five(FIVE), [([7], [1]), ([8], [1]), ([], []), ([0], [0])])
+    told_evaluation(12, equals_five(FIVE), lent=(b"", [1]))
+    told_evaluation(20, at(18, (1, 1)))
+    told_evaluation(21, equals_five(first), HIDDEN)
+    told_evaluation(22, at(19, (1, 1)))
+    told_evaluation(23, at(19, (1, 0)), HIDDEN)
+    told_evaluation(24, at(20, (1, 1)))
+    told_evaluation(25, at(20, (1, 0)))
+    told_evaluation(26, at(21, (1, 0)))
+    told_evaluation(27, equals_five((22, const(GREATEST), const(1))))
+    told_evaluation(28, equals_five((23, const(LEAST), const(1))))
+    told_evaluation(29, equals_five((24, const(GREATEST), const(2))))
+    told_evaluation(30, equals_five((25, NINE, const(0))))
+    told_evaluation(31, equals_five((26, NINE, const(0))))
+    told_evaluation(32, equals_five((31, const(LEAST))))
+    told_evaluation(41, at(18, (4, (2,), (1, 1))))
+
+
+def oracle_examples():
+    priced = equals_five((32, KEY, 5))
+    told_evaluation(7, priced, room=111)
+    for number, lent in (
+        (33, []), (34, [b"1234567"]), (35, [PRICE]), (36, [b"1234567", PRICE]), (37, [PRICE, PRICE]), (38, [bytes(63), LATE, PRICE]),
+        (39, [SIGNATURE, LATE, PRICE]), (40, [SIGNATURE, bytes(8), bytes([0] * 7 + [128])]),
+    ):
+        told_evaluation(number, priced, lent=elements(*lent))
+    at_least_nine = code_of((52, (32, KEY, 5), NINE))  # the worked example
+    eight = (8).to_bytes(8, "little")
+    check_bytes = lambda price: KEY + (5).to_bytes(8, "little") + price + SIGNATURE
+    run = lambda *es: evaluate(at_least_nine, ONE_INPUT, 0, elements(*es), 112)
+    told(run(SIGNATURE, EARLY, PRICE), (0, 1, 0, 0, 1, 0, check_bytes(PRICE)))
+    told(run(SIGNATURE, EARLY, eight), (0, 0, 0, 0, 1, 0, check_bytes(eight)))
+    told(run(SIGNATURE, LATE, PRICE), (39, 0, 0, 0, 0, 0, b""))
+    told(run(PRICE, EARLY, SIGNATURE), (34, 0, 0, 0, 0, 2, b""))
+
+
+def decoding_examples():
     b8 = (BYTES8, 5)
-    for number, kinds in ((9, [36]), (10, [0] * 1025), (11, [14])):
-        assert model.decode(kinds, [0] * len(kinds), [0] * len(kinds), b"", MAX_CODE)[0] == number
-        decode(kinds, [0] * len(kinds), [0] * len(kinds), b"")
-    decode(*records([b8, b8, (14,)]))
+    told(decode(*records([b8, b8, (14,)])), (0, 0, 19, 0))
+    one = lambda kind, number, room=MAX_CODE: decode([kind], [number], [0], b"", room)
+    told(one(36, 0)[:2], (9, 0))
+    told(one(NUM, 2**32)[:2], (9, 0))
+    told(one(BYTES32, 0)[:2], (9, 0))
+    told(decode([14], [], [0], b"")[:2], (9, 0))
+    told(one(14, 0, MAX_CODE - 1)[0], 7)
+    told(one(14, 0)[0], 11)
+    told(decode([0] * (MAX_TOKENS + 1), [0] * (MAX_TOKENS + 1), [0] * (MAX_TOKENS + 1), b"")[0], 10)
 
 
-# ---- what the published Rust answered: published.txt, printed by `compare sample 7 400` (tests/compare), the longest lines left out
+# ---- what the published Rust answered: published.txt, made by `target/compare/compare sample 7 400 | awk 'length < 1500'` (tests/compare)
 
 def unhex(s):
     return b"" if s in "-." else bytes.fromhex(s)
@@ -488,7 +551,7 @@ def add_evaluated(code, at, spent, outs, issued, reissued, witness, answer):
     ends = [sum(map(len, elements[: k + 1])) for k in range(len(elements))]
     number, first, second, verdict, checks, left, listing = answer.split(" ") if " " in answer else (answer, 0, 0, 0, 0, len(ends), "-")
     parts += [b"".join(elements), struct.pack("<%dI" % len(ends), *ends)]
-    parts += [words(int(at), 112 * 102, int(number), int(verdict), int(first), int(second), int(checks), int(left)), unhex(listing)]
+    parts += [words(int(at), 112 * MAX_ORACLES, int(number), int(verdict), int(first), int(second), int(checks), int(left)), unhex(listing)]
     cases.add(2, int(number), parts)
 
 
@@ -496,7 +559,7 @@ def add_written(code, answer):
     tokens = [] if answer in ("4", "5") else listed(answer, token_of)
     keys = [t[1] for t in tokens if t[0] == BYTES32]
     number = 0 if tokens else int(answer)
-    parts = [code, words(1030, 1030, 1030, 32 * 102, number, 0, len(tokens), 32 * len(keys)), bytes(t[0] for t in tokens)]
+    parts = [code, words(1030, 1030, 1030, 32 * MAX_ORACLES, number, 0, len(tokens), 32 * len(keys)), bytes(t[0] for t in tokens)]
     cases.add(3, number, parts + [words(*[t[1] if t[0] in (NUM, BYTES8) else 0 for t in tokens]), b"".join(keys)])
 
 
@@ -522,6 +585,8 @@ def published(path):
 
 
 def main():
+    if len(sys.argv) != 2:
+        sys.exit("generate.py FILE: where the cases are written")
     published(os.path.join(os.path.dirname(os.path.abspath(__file__)), "published.txt"))
     examples()
     for c in codes():
@@ -542,8 +607,13 @@ def main():
     print(len(cases.out), "cases", sum(map(len, cases.out)), "bytes")
 
 
-sys.setrecursionlimit(20000)
-threading.stack_size(512 << 20)
-thread = threading.Thread(target=main)
-thread.start()
-thread.join()
+def started():
+    """main, with room for deep recursion; what fails in it fails the program."""
+    sys.setrecursionlimit(20000)
+    threading.stack_size(512 << 20)
+    with concurrent.futures.ThreadPoolExecutor(1) as pool:
+        pool.submit(main).result()
+
+
+if __name__ == "__main__":
+    started()

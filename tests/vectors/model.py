@@ -2,6 +2,7 @@
 production at every place, so that it shares no way of working with the code that it judges."""
 
 MAX_CODE, MAX_TOKENS = 9216, 1024
+MAX_ORACLES = 73  # follows from MAX_TOKENS, as include/covenant.h tells
 
 # kinds of tokens
 (OTHER, NUM, BYTES8, BYTES32, CURR_INP, ADD, SUB, TO_LE64, TO_NUM, MUL64, DIV64, ADD64, SUB64, NEG64, EQUAL, VERIFY, NIP, DROP, AND, OR, XOR, INVERT,

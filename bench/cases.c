@@ -1,0 +1,79 @@
+/* cases FILE: the most stack that each call takes over the cases of tests/vectors/generate.py, most of which are refused somewhere; the file's format is told there. */
+#include "covenant.h"
+#include "stack.h"
+#include <stdio.h>
+#include <stdlib.h>
+#include <string.h>
+
+enum { CALLS = 6, CHECK = 1, EVALUATE, WRITE, DECODE, MOST = 1 << 16 };
+
+/* The case at hand: its parts, as copies that are aligned. */
+static struct { uint64_t bytes[MOST / 8]; size_t count; } part[16];
+
+static const uint8_t *u8(int k) { return (const uint8_t *)part[k].bytes; }
+static const uint32_t *u32(int k) { return (const uint32_t *)part[k].bytes; }
+static const uint64_t *u64(int k) { return part[k].bytes; }
+static size_t n8(int k) { return part[k].count; }
+static size_t n32(int k) { return part[k].count / 4; }
+static size_t n64(int k) { return part[k].count / 8; }
+
+/* What is written to. */
+static uint8_t out[MOST], kinds[MOST], keys[MOST];
+static uint64_t numbers[MOST];
+static uint32_t places[MOST];
+static covenant_record records[MOST];
+
+static void check(void *p) { *(covenant_checked *)p = covenant_check(u8(0), n8(0)); }
+
+static void evaluate(void *p) {
+    *(covenant_evaluated *)p = covenant_evaluate(u8(0), n8(0), u64(1), n64(1), u8(2), n8(2), u64(3), n64(3), u8(4), n8(4), u64(5), n64(5), u8(6), n8(6), u64(7), n64(7), u8(8),
+                                                 n8(8), u64(11)[0], u8(9), n8(9), u32(10), n32(10), out, u64(11)[1]);
+}
+
+static void write(void *p) {
+    const uint64_t *room = u64(1);
+    *(covenant_written *)p = covenant_write(u8(0), n8(0), kinds, room[0], numbers, room[1], places, room[2], keys, room[3]);
+}
+
+static void decode(void *p) {
+    *(covenant_decoded *)p = covenant_decode(u8(0), n8(0), u64(1), n64(1), u32(2), n32(2), u8(3), n8(3), out, u64(4)[0]);
+}
+
+static void write_records(void *p) { *(covenant_written *)p = covenant_write_records(u8(0), n8(0), records, u64(1)[0], keys, u64(1)[3]); }
+
+static void decode_records(void *p) { *(covenant_decoded *)p = covenant_decode_records(records, n8(0), u8(3), n8(3), out, u64(4)[0]); }
+
+static void (*const call[CALLS])(void *) = {check, evaluate, write, decode, write_records, decode_records};
+
+static uint32_t word(const uint8_t *b) { return b[0] | (uint32_t)b[1] << 8 | (uint32_t)b[2] << 16 | (uint32_t)b[3] << 24; }
+
+static void take_apart(const uint8_t *body) {
+    size_t at = 2 + 4 * (size_t)body[1];
+    for (int k = 0; k < body[1]; k++) {
+        size_t end = word(body + 2 + 4 * k);
+        part[k].count = end - at;
+        memcpy(part[k].bytes, body + at, end - at);
+        at = end;
+    }
+    if (body[0] == DECODE)
+        for (size_t i = 0; i < n8(0); i++) records[i] = (covenant_record){u8(0)[i], i < n64(1) ? u64(1)[i] : 0, i < n32(2) ? u32(2)[i] : 0};
+}
+
+int main(int argc, char **argv) {
+    static uint8_t body[16 * MOST];
+    uint8_t length[4];
+    size_t most[CALLS] = {0};
+    union { covenant_checked c; covenant_evaluated e; covenant_written w; covenant_decoded d; } answer;
+    FILE *f = argc > 1 ? fopen(argv[1], "rb") : 0;
+    while (f && fread(length, 1, 4, f) == 4 && word(length) <= sizeof body && fread(body, 1, word(length), f) == word(length)) {
+        take_apart(body);
+        for (int c = 0; c < CALLS; c++) {
+            /* the calls over records have the cases of Write and of Decode */
+            if ((c < DECODE ? c + 1 : c - 1) != body[0]) continue;
+            size_t used = stack_used(call[c], &answer);
+            if (used > most[c]) most[c] = used;
+        }
+    }
+    for (int c = 0; c < CALLS; c++) printf("%zu%c", most[c], c + 1 < CALLS ? ' ' : '\n');
+    return !f || !feof(f);
+}
