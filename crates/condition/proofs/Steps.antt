@@ -6,12 +6,13 @@ use mathlib.Core.List.{List}
 use native.Mathlib.Omega.{arith}
 use borrow.Author.Tests.{eq-eqb, ne-eqb}
 use lib.Dec.{eqb}
-use lib.ListN.{length, take, drop, length-drop, length-take}
+use lib.ListN.{length, drop, length-drop, length-take}
 use Rattle.semantics.specs.declared.AmountList.{AmountList}
 use Rattle.semantics.specs.declared.BinOp.{BinOp}
 use Rattle.semantics.specs.declared.CmpOp.{CmpOp}
 use Rattle.semantics.specs.declared.Command.{Command}
 use Rattle.semantics.specs.declared.IdxOp.{IdxOp}
+use Rattle.semantics.specs.declared.Terminal.{Terminal}
 use Rattle.semantics.specs.declared.UnOp.{UnOp}
 use Rattle.semantics.specs.Code.{commandRow}
 use Rattle.semantics.specs.Parse.{Walk, after, commandAt, fold, instructions, operandsAt, passes}
@@ -19,7 +20,7 @@ use Rattle.semantics.proofs.Machine.{fold-ends, fold-takes, refused-stays}
 use Rattle.condition.specs.declared.Stepped.{Stepped}
 use Rattle.condition.specs.declared.Summary.{Summary}
 use Rattle.condition.specs.declared.Walked.{Walked}
-use Rattle.condition.specs.Walk.{Small, counts, ended, next, stepped, summaryStep, tokensOf}
+use Rattle.condition.specs.Walk.{Small, counted, counts, ended, mostTokens, next, stepped, summaryStep, tokensOf}
 
 -- what the rest of code brings a walk to
 abbrev pub walkFrom : List ℕ → ℕ → Summary → Walked
@@ -49,10 +50,6 @@ module _ (c : List ℕ) (at : ℕ) (inside : at < length c) (s : Summary) where
 
   abbrev test : Bool
   test = passes (commandAt c at) (operandsAt c at) (counts s)
-
-  -- how many operand bytes there are
-  operands-are : length (operandsAt c at) ≡ length (take width (drop (suc at) c))
-  operands-are = refl
 
   -- the walk after a step that is known
   next-is : (g : Walk Summary) → summaryStep (Walk.going at s) (commandAt c at) (operandsAt c at) ≡ g
@@ -95,8 +92,19 @@ pub walk-ends : (c : List ℕ) (at : ℕ) (s : Summary) → length c ≤ at
     → walkFrom c at s ≡ cond (eqb (s .conditions) 0) (Walked.Refused at) (Walked.Ended s)
 walk-ends c at s h = ap ended (fold-ends summaryStep c at h (Walk.going at s))
 
--- a command adds at most thirteen tokens, and one to what waits
-pub tokens-le : (c : Command) → tokensOf c ≤ 13
+-- a terminal is at most one oracle terminal
+pub counted-add : (n : ℕ) (t : Terminal) → counted n t ≡ n + counted 0 t
+counted-add n Terminal.Other = omega arith
+counted-add n Terminal.PriceOracle1 = omega arith
+counted-add n Terminal.PriceOracle1W = omega arith
+
+pub counted-le : (t : Terminal) → counted 0 t ≤ 1
+counted-le Terminal.Other = omega arith
+counted-le Terminal.PriceOracle1 = omega arith
+counted-le Terminal.PriceOracle1W = omega arith
+
+-- a command adds at most so many tokens, and one to what waits
+pub tokens-le : (c : Command) → tokensOf c ≤ mostTokens
 tokens-le Command.Unknown = omega arith
 tokens-le Command.IdxConst = omega arith
 tokens-le Command.CurrIdx = omega arith

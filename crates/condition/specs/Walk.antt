@@ -2,13 +2,15 @@
 use Prim.Native.Nat.{ℕ, _+_, _-_, _*_, _≤_}
 use mathlib.Core.Bool.{cond}
 use mathlib.Core.List.{List, [], _∷_, _++_}
-use lib.Dec.{eqb, ltb}
+use mathlib.Core.Option.{Option, none, some}
+use lib.Dec.{eqb, leb}
 use lib.ListN.{length}
 use Rattle.semantics.specs.Operations.{binRow, cmpRow, idxRow, listRow, unRow}
 use Rattle.semantics.specs.declared.Refusal.{Refusal}
 use Rattle.semantics.specs.declared.Command.{Command}
 use Rattle.semantics.specs.declared.Terminal.{Terminal}
 use Rattle.semantics.specs.declared.Checked.{Checked}
+use Rattle.semantics.specs.Check.{firstOf, unless}
 use Rattle.semantics.specs.Code.{commandRow, maxTokens}
 use Rattle.semantics.specs.Parse.{Counts, Walk, fold, instructions, walkStep}
 use Rattle.condition.specs.declared.Rule.{Rule}
@@ -30,6 +32,10 @@ tokensOf (Command.Unary o) = length (unRow o .form)
 tokensOf Command.PriceOracle1 = 10
 tokensOf Command.PriceOracle1W = 13
 tokensOf (Command.Compare o) = length (cmpRow o .form)
+
+-- the most tokens that a command adds
+abbrev pub mostTokens : ℕ
+mostTokens = 13
 
 abbrev pub terminalsOf : Command → List Terminal
 terminalsOf Command.Unknown = []
@@ -129,15 +135,20 @@ start = record { values = 0; indexes = 0; conditions = 0; tokens = 0; oracles = 
 unfoldable pub walked : List ℕ → Walked
 walked c = ended (fold summaryStep (Walk.going 0 start) (instructions c))
 
+-- the refusal that the oracle rule comes to
+abbrev pub refusalOf : Rule → Option Refusal
+refusalOf Rule.Unseen = none
+refusalOf Rule.Kept = none
+refusalOf Rule.WFirst = some Refusal.PriceOracle1WFirst
+refusalOf Rule.Missing = some Refusal.PriceOracle1Missing
+
 -- refusals 3 to 5, or what is passed on
-abbrev pub judgedRule : Rule → Summary → Checked
-judgedRule Rule.Unseen s = Checked.Passed (s .tokens) (s .oracles)
-judgedRule Rule.Kept s = Checked.Passed (s .tokens) (s .oracles)
-judgedRule Rule.WFirst s = Checked.Refused Refusal.PriceOracle1WFirst
-judgedRule Rule.Missing s = Checked.Refused Refusal.PriceOracle1Missing
+abbrev pub toldUnless : Option Refusal → Summary → Checked
+toldUnless none s = Checked.Passed (s .tokens) (s .oracles)
+toldUnless (some r) s = Checked.Refused r
 
 abbrev pub judgedSummary : Summary → Checked
-judgedSummary s = cond (ltb maxTokens (s .tokens)) (Checked.Refused Refusal.TooManyTokens) (judgedRule (s .rule) s)
+judgedSummary s = toldUnless (firstOf (unless (leb (s .tokens) maxTokens) Refusal.TooManyTokens ∷ refusalOf (s .rule) ∷ [])) s
 
 -- refusal 2, or those
 abbrev pub judgedWalk : Walked → Checked
@@ -149,5 +160,5 @@ pub record Small (n : ℕ) (s : Summary) : Type 0 where
   pub values : s .values ≤ n
   pub indexes : s .indexes ≤ n
   pub conditions : s .conditions ≤ n
-  pub tokens : s .tokens ≤ 13 * n
+  pub tokens : s .tokens ≤ mostTokens * n
   pub oracles : s .oracles ≤ n

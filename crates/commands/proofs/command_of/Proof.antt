@@ -3,8 +3,8 @@ use Prim.Native.Nat.{ℕ}
 use mathlib.Core.Path.{_≡_, sym, ap}
 use Rattle.semantics.specs.Code.{commandOf}
 use Rattle.semantics.proofs.Instructions.{unknown-byte}
-use Rattle.condition.proofs.command_of.Statement.{statement}
-use Rattle.condition.proofs.command_of.Tie as tie
+use Rattle.commands.proofs.command_of.Statement.{statement}
+use Rattle.commands.proofs.command_of.Tie as tie
 
 is : (n : ℕ) {b : ℕ} → b ≡ n → commandOf n ≡ commandOf b
 is n e = ap commandOf (sym e)
