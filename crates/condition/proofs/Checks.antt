@@ -18,8 +18,8 @@ use Rattle.semantics.specs.Oracle.{missing, oracleRule, oracles, oraclesIn, rul
 use Rattle.semantics.specs.Parse.{Waiting, Walk, finished, fold, instructions, nothing, parse, treeStep}
 use Rattle.semantics.specs.Token.{form}
 use Rattle.semantics.specs.Trees.{Arith, Expr, IdxExpr}
-use Rattle.condition.specs.declared.Rule.{Rule}
-use Rattle.condition.specs.declared.Summary.{Summary}
+use Rattle.summary.specs.declared.Rule.{Rule}
+use Rattle.summary.specs.declared.Summary.{Summary}
 use Rattle.condition.specs.Walk.{counted, ended, foldTerminals, judgedSummary, judgedWalk, refusalOf, ruled, toldUnless, walked}
 use Rattle.condition.proofs.Trees.{summarised, summary, summary-oracles, summary-rule, summary-tokens, walked-summary}
 

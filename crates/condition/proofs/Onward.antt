@@ -16,7 +16,7 @@ use Rattle.semantics.specs.Code.{commandOf, commandRow, maxCode, maxTokens}
 use Rattle.semantics.specs.Parse.{Instruction, Walk, after, commandAt, fold, instructions, passes}
 use Rattle.semantics.proofs.Heads.{binOp-long, cmp-long, idxOp-long, list-long, unOp-long}
 use Rattle.semantics.proofs.Machine.{refused-stays}
-use Rattle.condition.specs.declared.Summary.{Summary}
+use Rattle.summary.specs.declared.Summary.{Summary}
 use Rattle.condition.specs.declared.Walked.{Walked}
 use Rattle.condition.specs.Walk.{counted, counts, ended, foldTerminals, judgedWalk, next, refusalOf, start, summaryStep, terminalsOf, toldUnless, tokensOf, walked}
 use Rattle.condition.proofs.Checks.{checked-walk}

@@ -3,40 +3,15 @@ use semantics::Checked;
 use semantics::MAX_CODE;
 use semantics::MAX_TOKENS;
 use semantics::Refusal;
+use summary::Rule;
+use summary::Stepped;
+use summary::Summary;
 ghost use mathlib.Core.Path.{_≡_};
 ghost use Prim.Native.Nat.{_≤_};
 ghost use lib.ListN.{length};
 ghost use Rattle.semantics.specs.Code.{maxCode};
 ghost use Rattle.semantics.specs.Check.{checked};
 ghost use Rattle.condition.specs.Walk.{judgedSummary, walked};
-
-mod step;
-mod tokens;
-
-// What is known of the oracle rule after some terminals.
-pub enum Rule {
-    Unseen,
-    Kept,
-    WFirst,
-    Missing,
-}
-
-// What one pass over the commands keeps: how many values, indexes and conditions wait, how many tokens and oracle terminals there were, and the oracle rule.
-// An enum field is copied to a local before it is used.
-pub struct Summary {
-    pub values: usize,
-    pub indexes: usize,
-    pub conditions: usize,
-    pub tokens: usize,
-    pub oracles: usize,
-    pub rule: Rule,
-}
-
-// A summary with one command more, or that the command's need is not met.
-pub enum Stepped {
-    Passed(Summary),
-    Failed,
-}
 
 // Where code stops being well formed, or what is known of well-formed code.
 pub enum Walked {
@@ -67,7 +42,7 @@ fn walk(code: &[u8]) -> Walked
         if code.len() - at - 1 < width {
             return Walked::Refused(at);
         }
-        let Stepped::Passed(next) = step::step(command, s) else {
+        let Stepped::Passed(next) = summary::step(command, s) else {
             return Walked::Refused(at);
         };
         s = next;

@@ -2,9 +2,9 @@
 use borrow.Author.Needs.{needs}
 use borrow.Author.Tests.{le-leb, lt-leb}
 use Rattle.semantics.specs.declared.Command.{Command}
-use Rattle.condition.proofs.Steps.{tokens-le}
-use Rattle.condition.proofs.step.index_step.Statement.{statement}
-use Rattle.condition.proofs.step.index_step.Tie as tie
+use Rattle.summary.proofs.Bounds.{tokens-le}
+use Rattle.summary.proofs.index_step.Statement.{statement}
+use Rattle.summary.proofs.index_step.Tie as tie
 
 pub index-step-spec : {M : Type 1} → statement M
 index-step-spec =

@@ -2,9 +2,9 @@
 use borrow.Author.Needs.{needs}
 use borrow.Author.Tests.{eq-eqb, ne-eqb}
 use Rattle.semantics.specs.declared.Command.{Command}
-use Rattle.condition.proofs.Steps.{tokens-le}
-use Rattle.condition.proofs.step.lookup.Statement.{statement}
-use Rattle.condition.proofs.step.lookup.Tie as tie
+use Rattle.summary.proofs.Bounds.{tokens-le}
+use Rattle.summary.proofs.lookup.Statement.{statement}
+use Rattle.summary.proofs.lookup.Tie as tie
 
 pub lookup-spec : {M : Type 1} → statement M
 lookup-spec =

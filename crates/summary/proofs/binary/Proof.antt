@@ -2,9 +2,9 @@
 use borrow.Author.Needs.{needs}
 use borrow.Author.Tests.{eq-eqb, ne-eqb, le-leb, lt-leb}
 use Rattle.semantics.specs.declared.Command.{Command}
-use Rattle.condition.proofs.Steps.{tokens-le}
-use Rattle.condition.proofs.step.binary.Statement.{statement}
-use Rattle.condition.proofs.step.binary.Tie as tie
+use Rattle.summary.proofs.Bounds.{tokens-le}
+use Rattle.summary.proofs.binary.Statement.{statement}
+use Rattle.summary.proofs.binary.Tie as tie
 
 pub binary-spec : {M : Type 1} → statement M
 binary-spec =

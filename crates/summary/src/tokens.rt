@@ -6,7 +6,7 @@ use semantics::IdxOp;
 use semantics::UnOp;
 ghost use mathlib.Core.Path.{_≡_};
 ghost use Rattle.semantics.specs.declared.Command.{Command};
-ghost use Rattle.condition.specs.Walk.{tokensOf};
+ghost use Rattle.summary.specs.Step.{tokensOf};
 
 // Of the terminals: 16, 17, 32 and 33.
 pub const CONST: usize = 1;

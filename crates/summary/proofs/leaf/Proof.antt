@@ -1,9 +1,9 @@
 -- The need is the test; what the terminal changes is the callees'.
 use borrow.Author.Needs.{needs}
 use borrow.Author.Tests.{eq-eqb, ne-eqb}
-use Rattle.condition.proofs.Steps.{counted-add, counted-le}
-use Rattle.condition.proofs.step.leaf.Statement.{statement}
-use Rattle.condition.proofs.step.leaf.Tie as tie
+use Rattle.summary.proofs.Bounds.{counted-add, counted-le}
+use Rattle.summary.proofs.leaf.Statement.{statement}
+use Rattle.summary.proofs.leaf.Tie as tie
 
 pub leaf-spec : {M : Type 1} → statement M
 leaf-spec =

@@ -1,7 +1,7 @@
 -- In each arm the operation is known.
 use borrow.Author.Needs.{needs}
-use Rattle.condition.proofs.tokens.index.Statement.{statement}
-use Rattle.condition.proofs.tokens.index.Tie as tie
+use Rattle.summary.proofs.tokens.index.Statement.{statement}
+use Rattle.summary.proofs.tokens.index.Tie as tie
 
 pub index-spec : {M : Type 1} → statement M
 index-spec =

@@ -1,8 +1,4 @@
-// What one command makes of a summary, by what the command needs.
-use crate::Rule;
-use crate::Stepped;
-use crate::Summary;
-use crate::tokens;
+// What one pass over the commands of condition code keeps, and what one command more makes of it.
 use semantics::AmountList;
 use semantics::BinOp;
 use semantics::CmpOp;
@@ -14,7 +10,34 @@ ghost use mathlib.Core.Path.{_≡_};
 ghost use Prim.Native.Nat.{_≤_};
 ghost use Rattle.semantics.specs.declared.Command.{Command};
 ghost use Rattle.semantics.specs.Code.{maxCode};
-ghost use Rattle.condition.specs.Walk.{Small, counted, leafStepped, mostTokens, ruled, stepped};
+ghost use Rattle.summary.specs.Step.{Small, counted, leafStepped, mostTokens, ruled, stepped};
+
+mod tokens;
+
+// What is known of the oracle rule after some terminals.
+pub enum Rule {
+    Unseen,
+    Kept,
+    WFirst,
+    Missing,
+}
+
+// What one pass over the commands keeps: how many values, indexes and conditions wait, how many tokens and oracle terminals there were, and the oracle rule.
+// An enum field is copied to a local before it is used.
+pub struct Summary {
+    pub values: usize,
+    pub indexes: usize,
+    pub conditions: usize,
+    pub tokens: usize,
+    pub oracles: usize,
+    pub rule: Rule,
+}
+
+// A summary with one command more, or that the command's need is not met.
+pub enum Stepped {
+    Passed(Summary),
+    Failed,
+}
 
 // How many oracle terminals a terminal is.
 fn oracles_of(terminal: Terminal) -> usize

@@ -1,7 +1,7 @@
 -- In each arm the command is known, and the callee answers for it.
 use borrow.Author.Needs.{needs}
-use Rattle.condition.proofs.step.step.Statement.{statement}
-use Rattle.condition.proofs.step.step.Tie as tie
+use Rattle.summary.proofs.step.Statement.{statement}
+use Rattle.summary.proofs.step.Tie as tie
 
 pub step-spec : {M : Type 1} → statement M
 step-spec =

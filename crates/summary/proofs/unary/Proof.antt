@@ -2,9 +2,9 @@
 use borrow.Author.Needs.{needs}
 use borrow.Author.Tests.{eq-eqb, ne-eqb, le-leb, lt-leb}
 use Rattle.semantics.specs.declared.Command.{Command}
-use Rattle.condition.proofs.Steps.{tokens-le}
-use Rattle.condition.proofs.step.unary.Statement.{statement}
-use Rattle.condition.proofs.step.unary.Tie as tie
+use Rattle.summary.proofs.Bounds.{tokens-le}
+use Rattle.summary.proofs.unary.Statement.{statement}
+use Rattle.summary.proofs.unary.Tie as tie
 
 pub unary-spec : {M : Type 1} → statement M
 unary-spec =

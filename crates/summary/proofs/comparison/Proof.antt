@@ -2,9 +2,9 @@
 use borrow.Author.Needs.{needs}
 use borrow.Author.Tests.{eq-eqb, ne-eqb}
 use Rattle.semantics.specs.declared.Command.{Command}
-use Rattle.condition.proofs.Steps.{tokens-le}
-use Rattle.condition.proofs.step.comparison.Statement.{statement}
-use Rattle.condition.proofs.step.comparison.Tie as tie
+use Rattle.summary.proofs.Bounds.{tokens-le}
+use Rattle.summary.proofs.comparison.Statement.{statement}
+use Rattle.summary.proofs.comparison.Tie as tie
 
 pub comparison-spec : {M : Type 1} → statement M
 comparison-spec =
