@@ -1,7 +1,7 @@
 -- By cases on the answer; a refusal's number and place are those of its row.
 use borrow.Author.Needs.{needs}
-use Rattle.covenant.proofs.answers.write_answer.Statement.{statement}
-use Rattle.covenant.proofs.answers.write_answer.Tie as tie
+use Rattle.answers.proofs.write_answer.Statement.{statement}
+use Rattle.answers.proofs.write_answer.Tie as tie
 
 pub write-answer-spec : {M : Type 1} → statement M
 write-answer-spec =

@@ -4,7 +4,7 @@ use semantics::Decoded;
 use semantics::Verdict;
 use semantics::Written;
 ghost use mathlib.Core.Path.{_≡_};
-ghost use Rattle.covenant.specs.Answers.{checkAnswer, decodeAnswer, verdictAnswer, writeAnswer};
+ghost use Rattle.answers.specs.Answers.{checkAnswer, decodeAnswer, verdictAnswer, writeAnswer};
 
 // `covenant_checked`
 #[repr(C)]
@@ -42,6 +42,7 @@ pub struct DecodeAnswer {
     pub start: u64,
 }
 
+// Of Check: `place` is the offset of refusal 2.
 pub fn check_answer(answer: Checked) -> CheckAnswer
     ensures { λ r. ⌜ r ≡ checkAnswer answer ⌝ }
 {
@@ -51,15 +52,16 @@ pub fn check_answer(answer: Checked) -> CheckAnswer
             place: 0,
         },
         Checked::Refused(r) => {
-            let n = semantics::number_of(r);
+            let refusal = semantics::number_of(r);
             CheckAnswer {
-                number: n.number,
-                place: n.first,
+                number: refusal.number,
+                place: refusal.first,
             }
         }
     }
 }
 
+// Of Evaluate: the verdict is 1 or 0, and 0 with a refusal.
 pub fn verdict_answer(verdict: Verdict, checks: u64, left: u64) -> EvaluateAnswer
     ensures { λ r. ⌜ r ≡ verdictAnswer verdict checks left ⌝ }
 {
@@ -86,6 +88,7 @@ pub fn verdict_answer(verdict: Verdict, checks: u64, left: u64) -> EvaluateAnswe
     }
 }
 
+// Of Write: with a refusal no record and no key byte is reported.
 pub fn write_answer(answer: Written) -> WriteAnswer
     ensures { λ r. ⌜ r ≡ writeAnswer answer ⌝ }
 {
@@ -108,6 +111,7 @@ pub fn write_answer(answer: Written) -> WriteAnswer
     }
 }
 
+// Of Decode: `place` is the token of refusal 9; with a refusal no code is reported.
 pub fn decode_answer(answer: Decoded) -> DecodeAnswer
     ensures { λ r. ⌜ r ≡ decodeAnswer answer ⌝ }
 {

@@ -3,8 +3,8 @@ use borrow.Author.Needs.{needs}
 use mathlib.Core.Path.{_≡_, refl}
 use mathlib.Core.Bool.{Bool, true, false, cond}
 use mir.Val.{boolByte}
-use Rattle.covenant.proofs.answers.verdict_answer.Statement.{statement}
-use Rattle.covenant.proofs.answers.verdict_answer.Tie as tie
+use Rattle.answers.proofs.verdict_answer.Statement.{statement}
+use Rattle.answers.proofs.verdict_answer.Tie as tie
 
 byte : (b : Bool) → boolByte b ≡ cond b 1 0
 byte true = refl

@@ -7,10 +7,10 @@ use Rattle.semantics.specs.declared.Evaluated.{Evaluated}
 use Rattle.semantics.specs.declared.Verdict.{Verdict}
 use Rattle.semantics.specs.declared.Written.{Written}
 use Rattle.semantics.specs.Refusals.{numbered}
-use Rattle.covenant.specs.declared.answers.CheckAnswer.{CheckAnswer}
-use Rattle.covenant.specs.declared.answers.DecodeAnswer.{DecodeAnswer}
-use Rattle.covenant.specs.declared.answers.EvaluateAnswer.{EvaluateAnswer}
-use Rattle.covenant.specs.declared.answers.WriteAnswer.{WriteAnswer}
+use Rattle.answers.specs.declared.CheckAnswer.{CheckAnswer}
+use Rattle.answers.specs.declared.DecodeAnswer.{DecodeAnswer}
+use Rattle.answers.specs.declared.EvaluateAnswer.{EvaluateAnswer}
+use Rattle.answers.specs.declared.WriteAnswer.{WriteAnswer}
 
 -- "Check adds nothing"; `place` is refusal 2's offset
 abbrev pub checkAnswer : Checked → CheckAnswer
