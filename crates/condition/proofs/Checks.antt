@@ -18,17 +18,10 @@ use Rattle.semantics.specs.Oracle.{missing, oracleRule, oracles, oraclesIn, rul
 use Rattle.semantics.specs.Parse.{Waiting, Walk, finished, fold, instructions, nothing, parse, treeStep}
 use Rattle.semantics.specs.Token.{form}
 use Rattle.semantics.specs.Trees.{Arith, Expr, IdxExpr}
-use Rattle.condition.specs.declared.Rule.{Rule}
-use Rattle.condition.specs.declared.Summary.{Summary}
-use Rattle.condition.specs.Walk.{counted, ended, judgedRule, judgedSummary, judgedWalk, foldTerminals, ruled, walked}
+use Rattle.summary.specs.declared.Rule.{Rule}
+use Rattle.summary.specs.declared.Summary.{Summary}
+use Rattle.condition.specs.Walk.{counted, ended, foldTerminals, judgedSummary, judgedWalk, refusalOf, ruled, toldUnless, walked}
 use Rattle.condition.proofs.Trees.{summarised, summary, summary-oracles, summary-rule, summary-tokens, walked-summary}
-
--- the refusal that the rule comes to
-refusalOf : Rule → Option Refusal
-refusalOf Rule.Unseen = none
-refusalOf Rule.Kept = none
-refusalOf Rule.WFirst = some Refusal.PriceOracle1WFirst
-refusalOf Rule.Missing = some Refusal.PriceOracle1Missing
 
 foldTerminals-counted : (n : ℕ) (ts : List Terminal) → foldTerminals counted n ts ≡ n + oraclesIn ts
 foldTerminals-counted n [] = omega arith
@@ -41,7 +34,6 @@ stays r h [] = refl
 stays r h (t ∷ ts) = ap (λ q. foldTerminals ruled q ts) (h t) ∙ stays r h ts
 
 kept : (ts : List Terminal) → refusalOf (foldTerminals ruled Rule.Kept ts) ≡ missing ts
-unfolding refusalOf
 kept [] = refl
 kept (Terminal.Other ∷ ts) = kept ts
 kept (Terminal.PriceOracle1 ∷ ts) = rw (stays Rule.Missing (λ t. refl) ts)
@@ -49,7 +41,6 @@ kept (Terminal.PriceOracle1W ∷ ts) = kept ts
 
 -- an expression has a terminal
 ruled-rule : (xs ys : List Terminal) → (xs ≡ [] → ⊥) → refusalOf (foldTerminals ruled Rule.Unseen (xs ++ ys)) ≡ rule xs ys
-unfolding refusalOf
 ruled-rule [] ys h = absurd (h refl)
 ruled-rule (Terminal.Other ∷ xs) ys h = kept (xs ++ ys)
 ruled-rule (Terminal.PriceOracle1 ∷ xs) ys h = kept (xs ++ ys)
@@ -72,20 +63,12 @@ some-terminal (Expr.PriceOracle1W key time) e = let z : _≡_ {A = ℕ} 0 1 = cc
 -- of a condition: 3, then 4 and 5, or what is passed on
 judged-as : (a : Arith) (s : Summary) → s .tokens ≡ length (form a) → s .oracles ≡ oracles a → refusalOf (s .rule) ≡ oracleRule a
     → answered (judged a) ≡ judgedSummary s
-unfolding judged refusalOf
-judged-as a s t n r = rw (← r) (go (leb (length (form a)) maxTokens) refl)
+unfolding judged
+judged-as a s t n r = rw (← r, ← t) (go (firstOf (unless (leb (s .tokens) maxTokens) Refusal.TooManyTokens ∷ refusalOf (s .rule) ∷ [])))
   where
-    passed : (q : Rule) → answered (passedUnless (firstOf (refusalOf q ∷ [])) a) ≡ judgedRule q s
-    passed Rule.Unseen = rw (t, n)
-    passed Rule.Kept = rw (t, n)
-    passed Rule.WFirst = refl
-    passed Rule.Missing = refl
-
-    go : (b : Bool) → leb (length (form a)) maxTokens ≡ b
-        → answered (passedUnless (firstOf (unless b Refusal.TooManyTokens ∷ refusalOf (s .rule) ∷ [])) a)
-        ≡ cond (ltb maxTokens (s .tokens)) (Checked.Refused Refusal.TooManyTokens) (judgedRule (s .rule) s)
-    go true q = rw (le-ltb maxTokens (s .tokens) (omega (arith, t, leb-true (length (form a)) maxTokens q))) (passed (s .rule))
-    go false q = rw (lt-ltb maxTokens (s .tokens) (omega (arith, t, leb-false (length (form a)) maxTokens q)))
+    go : (o : Option Refusal) → answered (passedUnless o a) ≡ toldUnless o s
+    go none = rw (t, n)
+    go (some q) = refl
 
 judged-summary : (a : Arith) (ds : List Arith) (vs : List Expr) (is : List IdxExpr)
     → answered (judged a) ≡ judgedSummary (summary (record { values = vs; indexes = is; conditions = a ∷ ds }))

@@ -3,26 +3,22 @@ use Prim.Native.Nat.{ℕ, suc, _+_, _-_, _≤_, _<_}
 use mathlib.Core.Path.{_≡_, refl, sym, _∙_}
 use mathlib.Core.Bool.{Bool, true, false, cond}
 use mathlib.Core.List.{List, [], _∷_}
+use mathlib.Core.Option.{Option, none, some}
 use native.Mathlib.Omega.{arith}
-use borrow.Author.Tests.{leb-false, leb-true, ltb-false}
+use borrow.Author.Tests.{leb-false, leb-true}
 use lib.Dec.{eqb, leb, ltb}
-use lib.ListN.{length, drop}
-use Rattle.semantics.specs.declared.AmountList.{AmountList}
-use Rattle.semantics.specs.declared.BinOp.{BinOp}
+use lib.ListN.{length, drop, length-append}
 use Rattle.semantics.specs.declared.Checked.{Checked}
-use Rattle.semantics.specs.declared.CmpOp.{CmpOp}
 use Rattle.semantics.specs.declared.Command.{Command}
-use Rattle.semantics.specs.declared.IdxOp.{IdxOp}
 use Rattle.semantics.specs.declared.Refusal.{Refusal}
-use Rattle.semantics.specs.declared.UnOp.{UnOp}
-use Rattle.semantics.specs.Check.{checked}
+use Rattle.semantics.specs.Check.{checked, firstOf, unless}
 use Rattle.semantics.specs.Code.{commandOf, commandRow, maxCode, maxTokens}
 use Rattle.semantics.specs.Parse.{Instruction, Walk, after, commandAt, fold, instructions, passes}
+use Rattle.semantics.proofs.Heads.{binOp-long, cmp-long, idxOp-long, list-long, unOp-long}
 use Rattle.semantics.proofs.Machine.{refused-stays}
-use Rattle.condition.specs.declared.Rule.{Rule}
-use Rattle.condition.specs.declared.Summary.{Summary}
+use Rattle.summary.specs.declared.Summary.{Summary}
 use Rattle.condition.specs.declared.Walked.{Walked}
-use Rattle.condition.specs.Walk.{counted, counts, ended, foldTerminals, judgedRule, judgedWalk, next, start, summaryStep, terminalsOf, tokensOf, walked}
+use Rattle.condition.specs.Walk.{counted, counts, ended, foldTerminals, judgedWalk, next, refusalOf, start, summaryStep, terminalsOf, toldUnless, tokensOf, walked}
 use Rattle.condition.proofs.Checks.{checked-walk}
 use Rattle.condition.proofs.Steps.{walk-ends, walk-fails, walk-short, walk-takes, walkFrom}
 
@@ -42,20 +38,18 @@ accepted c n m e = long (ltb maxCode (length c)) (sym (checked-walk c) ∙ e)
         let t : s .tokens ≡ n = cc in
         record { last = s; walk = w; tokens-are = t; oracles-are = cc; few = omega arith }
 
-    ruled : (r : Rule) (s : Summary) → walked c ≡ Walked.Ended s → s .tokens ≤ maxTokens → judgedRule r s ≡ Checked.Passed n m → Accepted c n m
-    ruled Rule.Unseen s w h q = passed s w h q
-    ruled Rule.Kept s w h q = passed s w h q
-    ruled Rule.WFirst s w h q = absurd (let z : _≡_ {A = ℕ} 0 1 = cc in omega arith)
-    ruled Rule.Missing s w h q = absurd (let z : _≡_ {A = ℕ} 0 1 = cc in omega arith)
+    ruled : (r : Option Refusal) (s : Summary) → walked c ≡ Walked.Ended s → s .tokens ≤ maxTokens → toldUnless (firstOf (r ∷ [])) s ≡ Checked.Passed n m → Accepted c n m
+    ruled none s w h q = passed s w h q
+    ruled (some r) s w h q = absurd (let z : _≡_ {A = ℕ} 0 1 = cc in omega arith)
 
-    few : (b : Bool) (s : Summary) → walked c ≡ Walked.Ended s → ltb maxTokens (s .tokens) ≡ b
-        → cond b (Checked.Refused Refusal.TooManyTokens) (judgedRule (s .rule) s) ≡ Checked.Passed n m → Accepted c n m
-    few true s w b q = absurd (let z : _≡_ {A = ℕ} 0 1 = cc in omega arith)
-    few false s w b q = ruled (s .rule) s w (ltb-false maxTokens (s .tokens) b) q
+    few : (b : Bool) (s : Summary) → walked c ≡ Walked.Ended s → leb (s .tokens) maxTokens ≡ b
+        → toldUnless (firstOf (unless b Refusal.TooManyTokens ∷ refusalOf (s .rule) ∷ [])) s ≡ Checked.Passed n m → Accepted c n m
+    few true s w b q = ruled (refusalOf (s .rule)) s w (leb-true (s .tokens) maxTokens b) q
+    few false s w b q = absurd (let z : _≡_ {A = ℕ} 0 1 = cc in omega arith)
 
     ends : (w : Walked) → walked c ≡ w → judgedWalk w ≡ Checked.Passed n m → Accepted c n m
     ends (Walked.Refused at) w q = absurd (let z : _≡_ {A = ℕ} 0 1 = cc in omega arith)
-    ends (Walked.Ended s) w q = few (ltb maxTokens (s .tokens)) s w refl q
+    ends (Walked.Ended s) w q = few (leb (s .tokens) maxTokens) s w refl q
 
     long : (b : Bool) → cond b (Checked.Refused Refusal.CodeTooLong) (judgedWalk (walked c)) ≡ Checked.Passed n m → Accepted c n m
     long true q = absurd (let z : _≡_ {A = ℕ} 0 1 = cc in omega arith)
@@ -110,27 +104,15 @@ pub some-token : (c : Command) (v i : ℕ) → commandRow c .need v i ≡ true �
 some-token Command.Unknown v i e = absurd (let z : _≡_ {A = ℕ} 0 1 = cc in omega arith)
 some-token Command.IdxConst v i e = omega arith
 some-token Command.CurrIdx v i e = omega arith
-some-token (Command.Index o) v i e = elim o [ IdxOp.Add ↦ omega arith | IdxOp.Sub ↦ omega arith | IdxOp.Mul ↦ omega arith | IdxOp.Div ↦ omega arith ]
+some-token (Command.Index o) v i e = simp length-append (omega (arith, idxOp-long o))
 some-token Command.Const v i e = omega arith
 some-token Command.CurrInputIdx v i e = omega arith
-some-token (Command.Lookup l) v i e =
-    elim l [ AmountList.Input ↦ omega arith | AmountList.Output ↦ omega arith | AmountList.InputIssue ↦ omega arith | AmountList.InputReIssue ↦ omega arith ]
-some-token (Command.Binary o) v i e =
-    elim o [
-      | BinOp.Add ↦ omega arith
-      | BinOp.Sub ↦ omega arith
-      | BinOp.Mul ↦ omega arith
-      | BinOp.Div ↦ omega arith
-      | BinOp.Mod ↦ omega arith
-      | BinOp.BitAnd ↦ omega arith
-      | BinOp.BitOr ↦ omega arith
-      | BinOp.Xor ↦ omega arith
-    ]
-some-token (Command.Unary o) v i e = elim o [ UnOp.Invert ↦ omega arith | UnOp.Negate ↦ omega arith ]
+some-token (Command.Lookup l) v i e = list-long l
+some-token (Command.Binary o) v i e = binOp-long o
+some-token (Command.Unary o) v i e = unOp-long o
 some-token Command.PriceOracle1 v i e = omega arith
 some-token Command.PriceOracle1W v i e = omega arith
-some-token (Command.Compare o) v i e =
-    elim o [ CmpOp.Eq ↦ omega arith | CmpOp.Lt ↦ omega arith | CmpOp.Leq ↦ omega arith | CmpOp.Gt ↦ omega arith | CmpOp.Geq ↦ omega arith ]
+some-token (Command.Compare o) v i e = cmp-long o
 
 -- it adds at most one to what waits
 pub height : (c : Command) (s : Summary) → next c s .values + next c s .indexes ≤ s .values + s .indexes + 1
@@ -245,3 +227,7 @@ module _ (c : List ℕ) (at : ℕ) (s t : Summary) (ends : walkFrom c at s ≡ W
 pub accepted-oracles : (c : List ℕ) (n m : ℕ) → Accepted c n m → m ≤ n
 unfolding walked
 accepted-oracles c n m a = let f = so-far c 0 start (a .last) (a .walk) in omega (arith, f .rest, a .tokens-are, a .oracles-are)
+
+-- so no more than a condition may have tokens
+pub few-oracles : (c : List ℕ) (t o : ℕ) → checked c ≡ Checked.Passed t o → o ≤ maxTokens
+few-oracles c t o e = let a = accepted c t o e in omega (arith, accepted-oracles c t o a, a .few)

@@ -6,20 +6,16 @@ use mathlib.Core.List.{List}
 use native.Mathlib.Omega.{arith}
 use borrow.Author.Tests.{eq-eqb, ne-eqb}
 use lib.Dec.{eqb}
-use lib.ListN.{length, take, drop, length-drop, length-take}
-use Rattle.semantics.specs.declared.AmountList.{AmountList}
-use Rattle.semantics.specs.declared.BinOp.{BinOp}
-use Rattle.semantics.specs.declared.CmpOp.{CmpOp}
+use lib.ListN.{length, drop, length-drop, length-take}
 use Rattle.semantics.specs.declared.Command.{Command}
-use Rattle.semantics.specs.declared.IdxOp.{IdxOp}
-use Rattle.semantics.specs.declared.UnOp.{UnOp}
 use Rattle.semantics.specs.Code.{commandRow}
 use Rattle.semantics.specs.Parse.{Walk, after, commandAt, fold, instructions, operandsAt, passes}
 use Rattle.semantics.proofs.Machine.{fold-ends, fold-takes, refused-stays}
-use Rattle.condition.specs.declared.Stepped.{Stepped}
-use Rattle.condition.specs.declared.Summary.{Summary}
+use Rattle.summary.specs.declared.Stepped.{Stepped}
+use Rattle.summary.specs.declared.Summary.{Summary}
+use Rattle.summary.specs.Step.{stepped}
 use Rattle.condition.specs.declared.Walked.{Walked}
-use Rattle.condition.specs.Walk.{Small, counts, ended, next, stepped, summaryStep, tokensOf}
+use Rattle.condition.specs.Walk.{counts, ended, next, summaryStep}
 
 -- what the rest of code brings a walk to
 abbrev pub walkFrom : List ℕ → ℕ → Summary → Walked
@@ -49,10 +45,6 @@ module _ (c : List ℕ) (at : ℕ) (inside : at < length c) (s : Summary) where
 
   abbrev test : Bool
   test = passes (commandAt c at) (operandsAt c at) (counts s)
-
-  -- how many operand bytes there are
-  operands-are : length (operandsAt c at) ≡ length (take width (drop (suc at) c))
-  operands-are = refl
 
   -- the walk after a step that is known
   next-is : (g : Walk Summary) → summaryStep (Walk.going at s) (commandAt c at) (operandsAt c at) ≡ g
@@ -94,44 +86,3 @@ module _ (c : List ℕ) (at : ℕ) (inside : at < length c) (s : Summary) where
 pub walk-ends : (c : List ℕ) (at : ℕ) (s : Summary) → length c ≤ at
     → walkFrom c at s ≡ cond (eqb (s .conditions) 0) (Walked.Refused at) (Walked.Ended s)
 walk-ends c at s h = ap ended (fold-ends summaryStep c at h (Walk.going at s))
-
--- a command adds at most thirteen tokens, and one to what waits
-pub tokens-le : (c : Command) → tokensOf c ≤ 13
-tokens-le Command.Unknown = omega arith
-tokens-le Command.IdxConst = omega arith
-tokens-le Command.CurrIdx = omega arith
-tokens-le (Command.Index o) = elim o [ IdxOp.Add ↦ omega arith | IdxOp.Sub ↦ omega arith | IdxOp.Mul ↦ omega arith | IdxOp.Div ↦ omega arith ]
-tokens-le Command.Const = omega arith
-tokens-le Command.CurrInputIdx = omega arith
-tokens-le (Command.Lookup l) =
-    elim l [ AmountList.Input ↦ omega arith | AmountList.Output ↦ omega arith | AmountList.InputIssue ↦ omega arith | AmountList.InputReIssue ↦ omega arith ]
-tokens-le (Command.Binary o) =
-    elim o [
-      | BinOp.Add ↦ omega arith
-      | BinOp.Sub ↦ omega arith
-      | BinOp.Mul ↦ omega arith
-      | BinOp.Div ↦ omega arith
-      | BinOp.Mod ↦ omega arith
-      | BinOp.BitAnd ↦ omega arith
-      | BinOp.BitOr ↦ omega arith
-      | BinOp.Xor ↦ omega arith
-    ]
-tokens-le (Command.Unary o) = elim o [ UnOp.Invert ↦ omega arith | UnOp.Negate ↦ omega arith ]
-tokens-le Command.PriceOracle1 = omega arith
-tokens-le Command.PriceOracle1W = omega arith
-tokens-le (Command.Compare o) =
-    elim o [ CmpOp.Eq ↦ omega arith | CmpOp.Lt ↦ omega arith | CmpOp.Leq ↦ omega arith | CmpOp.Gt ↦ omega arith | CmpOp.Geq ↦ omega arith ]
-
-pub small-next : (c : Command) (n w : ℕ) (s : Summary) → Small n s → Small (n + 1 + w) (next c s)
-small-next Command.Unknown n w s h = omega arith
-small-next Command.IdxConst n w s h = omega arith
-small-next Command.CurrIdx n w s h = omega arith
-small-next (Command.Index o) n w s h = omega (arith, tokens-le (Command.Index o))
-small-next Command.Const n w s h = omega arith
-small-next Command.CurrInputIdx n w s h = omega arith
-small-next (Command.Lookup l) n w s h = omega (arith, tokens-le (Command.Lookup l))
-small-next (Command.Binary o) n w s h = omega (arith, tokens-le (Command.Binary o))
-small-next (Command.Unary o) n w s h = omega (arith, tokens-le (Command.Unary o))
-small-next Command.PriceOracle1 n w s h = omega arith
-small-next Command.PriceOracle1W n w s h = omega arith
-small-next (Command.Compare o) n w s h = omega (arith, tokens-le (Command.Compare o))

@@ -20,9 +20,10 @@ use Rattle.semantics.specs.Trees.{Arith, Expr, IdxExpr}
 use Rattle.semantics.proofs.Machine.{fold-map}
 use Rattle.semantics.proofs.ParseCode.{waiting}
 use Rattle.semantics.proofs.Tests.{and-true}
-use Rattle.condition.specs.declared.Rule.{Rule}
-use Rattle.condition.specs.declared.Summary.{Summary}
-use Rattle.condition.specs.Walk.{counted, ended, next, foldTerminals, ruled, summaryStep, terminalsOf, tokensOf, waits, walked}
+use Rattle.summary.specs.declared.Rule.{Rule}
+use Rattle.summary.specs.declared.Summary.{Summary}
+use Rattle.condition.specs.Walk.{counted, ended, next, foldTerminals, ruled, summaryStep, terminalsOf, tokensOf, walked}
+use Rattle.summary.specs.Step.{waits}
 
 -- the tokens and the terminals of the trees that wait
 exprTokens : List Expr → ℕ

@@ -48,6 +48,10 @@ aval w zs = only (array-vals (uint-vals w) zs)
 abbrev pub zval : Width → ℕ → ℕ → Val
 zval w n x = vstruct (ofList (replicate n (vint w x)))
 
+-- as many zeros as a form can have tokens
+abbrev pub zeros : List ℕ
+zeros = replicate 1024 0
+
 abbrev pub Is-array : Width → ℕ → List ℕ → Type 0
 Is-array w n zs = Is (Array (UInt w) n) zs (aval w zs ∷ [])
 

@@ -17,12 +17,12 @@ use Rattle.semantics.specs.declared.Refusal.{Refusal}
 use Rattle.semantics.specs.Records.{Records}
 use Rattle.semantics.specs.Write.{Writes, Writing, roomFor, writing, written}
 use Rattle.records.specs.declared.TokenRecord.{TokenRecord}
-use Rattle.records.specs.Fields.{kindsOf, numbersOf, placesOf, recordsFrom, recordsOf}
+use Rattle.records.specs.Fields.{fieldsOf, kindsOf, numbersOf, placesOf, recordsFrom}
 use Rattle.records.proofs.Room.{too-many, writing-alike, writing-fits}
 use Rattle.records.proofs.Stored.{countOf, stored, stored-kept}
-use Rattle.covenant.specs.declared.answers.DecodeAnswer.{DecodeAnswer}
-use Rattle.covenant.specs.declared.answers.WriteAnswer.{WriteAnswer}
-use Rattle.covenant.specs.Answers.{decodeAnswer, writeAnswer}
+use Rattle.answers.specs.declared.DecodeAnswer.{DecodeAnswer}
+use Rattle.answers.specs.declared.WriteAnswer.{WriteAnswer}
+use Rattle.answers.specs.Answers.{decodeAnswer, writeAnswer}
 use Rattle.covenant.specs.TokenRecords.{DecodesRecords, Loaded, WritesFields, loadable, writable}
 
 -- ---- Decode
@@ -33,7 +33,7 @@ loaded-few count h = rw (le-leb count maxTokens h)
 module _ (rs : List TokenRecord) (keys old new : List ℕ) (r : DecodeAnswer) where
   pub refuses : maxTokens < length rs → r ≡ decodeAnswer (Decoded.Refused Refusal.TooManyRecords) → new ≡ old → DecodesRecords rs keys old new r
   refuses h e f =
-      let d : decoded (recordsOf rs keys) old ≡ record { answer = Decoded.Refused Refusal.TooManyRecords; buffer = old } = too-many (recordsOf rs keys) old (rw length-map h) in
+      let d : decoded (fieldsOf rs keys) old ≡ record { answer = Decoded.Refused Refusal.TooManyRecords; buffer = old } = too-many (fieldsOf rs keys) old (rw length-map h) in
       record { answer = rw d e; buffer = rw d f; unambiguous = λ few. absurd (omega (arith, h, few, length-map rs (λ (t : TokenRecord). t .kind))) }
 
   pub decodes : (kinds numbers places : List ℕ) (d : Decoded) (count : ℕ) → length rs ≡ count → count ≤ maxTokens → Loaded rs kinds numbers places
@@ -45,12 +45,12 @@ module _ (rs : List TokenRecord) (keys old new : List ℕ) (r : DecodeAnswer) wh
       let k : take count kinds ≡ kindsOf rs = subst (λ (m : ℕ). take m kinds ≡ take m (kindsOf rs)) few (l .kindsLoaded) ∙ all (λ t. t .kind) in
       let m : take count numbers ≡ numbersOf rs = subst (λ (m : ℕ). take m numbers ≡ take m (numbersOf rs)) few (l .numbersLoaded) ∙ all (λ t. t .number) in
       let p : take count places ≡ placesOf rs = subst (λ (m : ℕ). take m places ≡ take m (placesOf rs)) few (l .placesLoaded) ∙ all (λ t. t .place) in
-      let whole : record { answer = d; buffer = new } ≡ decoded (recordsOf rs keys) old = e ∙ (λ i. decoded (record { kinds = k i; numbers = m i; places = p i; keys = keys }) old) in
-      let mine : CallUnambiguous (recordsOf rs keys) old d new = transport (λ i. CallUnambiguous (record { kinds = k i; numbers = m i; places = p i; keys = keys }) old d new) u in
+      let whole : record { answer = d; buffer = new } ≡ decoded (fieldsOf rs keys) old = e ∙ (λ i. decoded (record { kinds = k i; numbers = m i; places = p i; keys = keys }) old) in
+      let mine : CallUnambiguous (fieldsOf rs keys) old d new = transport (λ i. CallUnambiguous (record { kinds = k i; numbers = m i; places = p i; keys = keys }) old d new) u in
       record {
         answer = f ∙ ap (λ (x : Decoding). decodeAnswer (x .answer)) whole;
         buffer = ap (λ (x : Decoding). x .buffer) whole;
-        unambiguous = subst (λ (x : Decoded). CallUnambiguous (recordsOf rs keys) old x new) (ap (λ (x : Decoding). x .answer) whole) mine;
+        unambiguous = subst (λ (x : Decoded). CallUnambiguous (fieldsOf rs keys) old x new) (ap (λ (x : Decoding). x .answer) whole) mine;
       }
     where
       all : (g : TokenRecord → ℕ) → take count (map g rs) ≡ map g rs
@@ -115,7 +115,7 @@ module _ (code : List ℕ) (bytes : Bytes code) (count n : ℕ) (few : n ≡ wri
   front : (l : List ℕ) → maxTokens ≤ length l → length (take n l) ≡ n
   front l h = length-take-le n l (omega (arith, few, writable-few count .1, h))
 
-  same-room : (rs : List TokenRecord) → length rs ≡ count → (t k : ℕ) → t ≤ maxTokens → roomFor t k (recordsOf rs keys) ≡ roomFor t k old
+  same-room : (rs : List TokenRecord) → length rs ≡ count → (t k : ℕ) → t ≤ maxTokens → roomFor t k (fieldsOf rs keys) ≡ roomFor t k old
   same-room rs size t k h =
       let e = writable-same count t h ∙ ap (leb t) (sym few) in
       rw (length-map rs (λ (u : TokenRecord). u .kind), length-map rs (λ (u : TokenRecord). u .number), length-map rs (λ (u : TokenRecord). u .place), size, front kinds long₁, front numbers long₂, front places long₃, e)
@@ -130,13 +130,13 @@ module _ (code : List ℕ) (bytes : Bytes code) (count n : ℕ) (few : n ≡ wri
         few = omega (arith, c, fits, few, writable-few count .0);
         fit = omega (arith, c, fits, few, writable-few count .1);
         stored = λ rs size.
-            let same : writing code (recordsOf rs keys) ≡ w = writing-alike code bytes (recordsOf rs keys) old (same-room rs size) in
+            let same : writing code (fieldsOf rs keys) ≡ w = writing-alike code bytes (fieldsOf rs keys) old (same-room rs size) in
             let room : countOf w ≤ length rs = omega (arith, fits, few, writable-few count .0, size) in
             let us = recordsFrom (new .kinds ++ drop n kinds) (new .numbers ++ drop n numbers) (new .places ++ drop n places) in
             record {
               answer = rw same e;
               writes = rw same
-                  (subst (λ (m : ℕ). Writes w (recordsOf rs keys) (recordsOf (take m us ++ drop m rs) (new .keys))) (sym c)
+                  (subst (λ (m : ℕ). Writes w (fieldsOf rs keys) (fieldsOf (take m us ++ drop m rs) (new .keys))) (sym c)
                   (stored rs old new (drop n kinds) (drop n numbers) (drop n places) w (f .1) room s));
               kept = subst (λ (m : ℕ). drop m (take m us ++ drop m rs) ≡ drop m rs) (sym c)
                   (stored-kept rs old new (drop n kinds) (drop n numbers) (drop n places) w (f .1) s);

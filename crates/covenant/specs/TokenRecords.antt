@@ -10,21 +10,21 @@ use Rattle.semantics.specs.Decode.{decoded}
 use Rattle.semantics.specs.Meaning.{CallUnambiguous}
 use Rattle.semantics.specs.Write.{Writes, writing, written}
 use Rattle.records.specs.declared.TokenRecord.{TokenRecord}
-use Rattle.records.specs.Fields.{kindsOf, numbersOf, placesOf, recordsFrom, recordsOf}
-use Rattle.covenant.specs.Answers.{decodeAnswer, writeAnswer}
-use Rattle.covenant.specs.declared.answers.DecodeAnswer.{DecodeAnswer}
-use Rattle.covenant.specs.declared.answers.WriteAnswer.{WriteAnswer}
+use Rattle.records.specs.Fields.{fieldsOf, kindsOf, numbersOf, placesOf, recordsFrom}
+use Rattle.answers.specs.Answers.{decodeAnswer, writeAnswer}
+use Rattle.answers.specs.declared.DecodeAnswer.{DecodeAnswer}
+use Rattle.answers.specs.declared.WriteAnswer.{WriteAnswer}
 
 -- what Decode gives back for these records, and the code buffer then; and demand 3, of this call's own answer
 pub record DecodesRecords (rs : List TokenRecord) (keys old new : List ℕ) (r : DecodeAnswer) : Type 0 where
-  pub answer : r ≡ decodeAnswer (decoded (recordsOf rs keys) old .answer)
-  pub buffer : new ≡ decoded (recordsOf rs keys) old .buffer
-  pub unambiguous : CallUnambiguous (recordsOf rs keys) old (decoded (recordsOf rs keys) old .answer) new
+  pub answer : r ≡ decodeAnswer (decoded (fieldsOf rs keys) old .answer)
+  pub buffer : new ≡ decoded (fieldsOf rs keys) old .buffer
+  pub unambiguous : CallUnambiguous (fieldsOf rs keys) old (decoded (fieldsOf rs keys) old .answer) new
 
 -- what Write gives back for these records, and what records and keys are then; the records beyond those reported are kept
 pub record WritesRecords (code : List ℕ) (old new : List TokenRecord) (oldKeys newKeys : List ℕ) (r : WriteAnswer) : Type 0 where
-  pub answer : r ≡ writeAnswer (written (writing code (recordsOf old oldKeys)))
-  pub writes : Writes (writing code (recordsOf old oldKeys)) (recordsOf old oldKeys) (recordsOf new newKeys)
+  pub answer : r ≡ writeAnswer (written (writing code (fieldsOf old oldKeys)))
+  pub writes : Writes (writing code (fieldsOf old oldKeys)) (fieldsOf old oldKeys) (fieldsOf new newKeys)
   pub kept : drop (r .records) new ≡ drop (r .records) old
 
 -- how many records are loaded: all, or none where there are more than Decode takes

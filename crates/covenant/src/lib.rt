@@ -1,5 +1,4 @@
 // The unit's boundary: the calls as C sees them (include/covenant.h), thin over the crates that make them.
-pub mod answers;
 pub mod token_records;
 
 use answers::CheckAnswer;
@@ -10,11 +9,13 @@ ghost use mathlib.Core.Path.{_≡_};
 ghost use Rattle.semantics.specs.Check.{checked};
 ghost use Rattle.semantics.specs.Decode.{decoded};
 ghost use Rattle.semantics.specs.Evaluate.{evaluated};
+ghost use Rattle.semantics.specs.Meaning.{CallUnambiguous};
 ghost use Rattle.semantics.specs.Write.{Writes, writing, written};
 ghost use Rattle.operations.specs.Lists.{envOf};
 ghost use Rattle.semantics.specs.Records.{recordsOf};
-ghost use Rattle.covenant.specs.Answers.{checkAnswer, decodeAnswer, evaluateAnswer, writeAnswer};
+ghost use Rattle.answers.specs.Answers.{checkAnswer, decodeAnswer, evaluateAnswer, writeAnswer};
 
+// Check: `code` is lent and only read. Refusals 1 to 5.
 #[no_mangle]
 pub extern "C" fn covenant_check(code: &[u8]) -> CheckAnswer
     ensures { λ r. ⌜ r ≡ checkAnswer (checked (now (code .entry))) ⌝ }
@@ -22,6 +23,8 @@ pub extern "C" fn covenant_check(code: &[u8]) -> CheckAnswer
     answers::check_answer(condition::check(code))
 }
 
+// Evaluate: of what is lent only `checks` is written, 112 bytes at its front for each check reported, with a refusal too.
+// Refusals 1 to 5, 8, 12, 7, then 20 to 41 in the order of evaluation.
 #[no_mangle]
 pub extern "C" fn covenant_evaluate(
     code: &[u8],
@@ -60,6 +63,8 @@ pub extern "C" fn covenant_evaluate(
     answers::verdict_answer(verdict, answer.checks as u64, answer.left as u64)
 }
 
+// Write: `code` is only read. The records reported are written at the front of `kinds`, `numbers` and `places`, and their keys into the key bytes reported.
+// Refusals 1 to 5, 6, 7; a refusal writes nothing.
 #[no_mangle]
 pub extern "C" fn covenant_write(
     code: &[u8],
@@ -74,6 +79,8 @@ pub extern "C" fn covenant_write(
     answers::write_answer(writer::write(code, kinds, numbers, places, keys))
 }
 
+// Decode: of what is lent only `code` is written, the bytes reported at its front. There are as many records as kinds.
+// Refusals 10, 9, 7, 11; a refusal writes nothing. The third promise is demand 3.
 #[no_mangle]
 pub extern "C" fn covenant_decode(
     kinds: &[u8],
@@ -84,6 +91,7 @@ pub extern "C" fn covenant_decode(
 ) -> DecodeAnswer
     ensures { λ r. ⌜ r ≡ decodeAnswer (decoded (recordsOf (now (kinds .entry)) (now (numbers .entry)) (now (places .entry)) (now (keys .entry))) (now (code .entry)) .answer) ⌝ }
     ensures { λ r. ⌜ now (code .exit) ≡ decoded (recordsOf (now (kinds .entry)) (now (numbers .entry)) (now (places .entry)) (now (keys .entry))) (now (code .entry)) .buffer ⌝ }
+    ensures { λ r. ⌜ CallUnambiguous (recordsOf (now (kinds .entry)) (now (numbers .entry)) (now (places .entry)) (now (keys .entry))) (now (code .entry)) (decoded (recordsOf (now (kinds .entry)) (now (numbers .entry)) (now (places .entry)) (now (keys .entry))) (now (code .entry)) .answer) (now (code .exit)) ⌝ }
 {
     answers::decode_answer(decoder::decode(kinds, numbers, places, keys, code))
 }

@@ -1,8 +1,8 @@
 // Write and Decode over a slice of token records: the fields of the records go through arrays of numbers.
-use crate::answers::DecodeAnswer;
-use crate::answers::WriteAnswer;
-use crate::answers::decode_answer;
-use crate::answers::write_answer;
+use answers::DecodeAnswer;
+use answers::WriteAnswer;
+use answers::decode_answer;
+use answers::write_answer;
 use records::TokenRecord;
 use records::load;
 use records::store;
@@ -48,6 +48,7 @@ fn decode_loaded(
     ))
 }
 
+// Decode over records: `records` and `keys` are only read, and `code` is written as `covenant_decode` writes it. Refusals 10, 9, 7, 11.
 #[no_mangle]
 pub extern "C" fn covenant_decode_records(
     records: &[TokenRecord],
@@ -98,6 +99,7 @@ fn write_fields(
     ))
 }
 
+// Write over records: `code` is only read; the records reported are written at the front of `records`, and their keys into the key bytes reported. Refusals 1 to 5, 6, 7.
 #[no_mangle]
 pub extern "C" fn covenant_write_records(
     code: &[u8],

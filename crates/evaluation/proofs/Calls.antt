@@ -13,7 +13,6 @@ use Rattle.semantics.specs.declared.Checked.{Checked}
 use Rattle.semantics.specs.declared.Refusal.{Refusal}
 use Rattle.semantics.specs.Check.{Condition, checked, condition, firstOf, unless}
 use Rattle.semantics.specs.Evaluate.{Evaluation, Lent, areMarks, ended, endsSound, envSound, evaluated, evaluatedTree, initial, paired, refusedCall, unlessRefused}
-use Rattle.semantics.specs.Code.{maxTokens}
 use Rattle.semantics.specs.Evaluation.{Amounts, Env, evalArith}
 use Rattle.semantics.specs.Oracle.{oracles}
 use Rattle.semantics.specs.Parse.{fold, instructions}
@@ -21,7 +20,7 @@ use Rattle.semantics.specs.Trees.{Arith}
 use Rattle.semantics.proofs.Passing.{answered-passed, answered-refused, passing}
 use Rattle.semantics.proofs.Run.{run-code}
 use Rattle.semantics.proofs.Tests.{and-true}
-use Rattle.condition.proofs.Onward.{accepted, accepted-oracles}
+use Rattle.condition.proofs.Onward.{accepted}
 use Rattle.operations.specs.Elements.{leftOf, stateOf}
 use Rattle.operations.specs.Lists.{Paired}
 use Rattle.evaluation.specs.Run.{Answers, Bounded}
@@ -110,6 +109,3 @@ pub bounded : (b : List ℕ) (n m size : ℕ) → checked b ≡ Checked.Passed n
 bounded b n m size e h =
     let a = accepted b n m e in
     record { last = a .last; walk = a .walk; tokens-are = a .tokens-are; few = a .few; room = omega (arith, a .oracles-are, h) }
-
-pub few-oracles : (b : List ℕ) (n m : ℕ) → checked b ≡ Checked.Passed n m → m ≤ maxTokens
-few-oracles b n m e = let a = accepted b n m e in omega (arith, a .few, accepted-oracles b n m a)

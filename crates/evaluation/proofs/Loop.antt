@@ -22,7 +22,7 @@ use Rattle.semantics.specs.Operations.{binRow, idxRow, unRow}
 use Rattle.semantics.specs.Parse.{Instruction, after, commandAt, fold, instructions, operandsAt}
 use Rattle.semantics.proofs.Machine.{fold-takes}
 use Rattle.semantics.proofs.Tests.{and-true}
-use Rattle.condition.specs.declared.Summary.{Summary}
+use Rattle.summary.specs.declared.Summary.{Summary}
 use Rattle.condition.specs.declared.Walked.{Walked}
 use Rattle.condition.specs.Walk.{counted, foldTerminals, next, start, terminalsOf, walked}
 use Rattle.condition.proofs.Onward.{Onward, SoFar, height, inside, next-oracles, next-tokens, onward, oracles-grow, so-far, some-token}

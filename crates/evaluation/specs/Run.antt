@@ -10,7 +10,7 @@ use Rattle.semantics.specs.declared.Verdict.{Verdict}
 use Rattle.semantics.specs.Code.{commandRow, maxTokens}
 use Rattle.semantics.specs.Evaluation.{Outcome, State, err, ok}
 use Rattle.semantics.specs.Evaluate.{Evaluation, ended, endsSound}
-use Rattle.condition.specs.declared.Summary.{Summary}
+use Rattle.summary.specs.declared.Summary.{Summary}
 use Rattle.condition.specs.declared.Walked.{Walked}
 use Rattle.condition.specs.Walk.{counted, foldTerminals, terminalsOf, walked}
 use Rattle.evaluation.specs.declared.stacks.Turn.{Turn}

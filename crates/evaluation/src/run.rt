@@ -221,7 +221,7 @@ pub fn run(
     let mut checks = 0;
     let mut at = 0;
     loop {
-        let command = condition::command_of(code[at]);
+        let command = commands::command_of(code[at]);
         let turn = step(
             command,
             code,
@@ -249,7 +249,7 @@ pub fn run(
             Turn::On(v, i) => {
                 values = v;
                 indexes = i;
-                at = at + 1 + condition::width_of(command);
+                at = at + 1 + commands::width_of(command);
             }
             Turn::Ended(verdict) => {
                 return Evaluated {

@@ -10,7 +10,7 @@ use Rattle.semantics.specs.Records.{Records}
 use Rattle.semantics.specs.Token.{Token}
 use Rattle.semantics.specs.Write.{KeysPlaced, RecordsWritten, Writes, Writing}
 use Rattle.records.specs.declared.TokenRecord.{TokenRecord}
-use Rattle.records.specs.Fields.{kindsOf, numbersOf, placesOf, recordsFrom, recordsOf}
+use Rattle.records.specs.Fields.{fieldsOf, kindsOf, numbersOf, placesOf, recordsFrom}
 use Rattle.records.proofs.Onto.{onto, onto-length, records-many}
 
 -- records that have these fields
@@ -88,7 +88,7 @@ module _ (rs : List TokenRecord) (old new : Records) (kinds numbers places : Lis
   places-long ts n room w = omega (arith, length-append (new .places) places, w .placesCount)
 
   records-stored : (ts : List Token) (n : ℕ) → length ts ≤ length (old .places) → length ts ≤ length rs → RecordsWritten ts n old new
-      → RecordsWritten ts n (recordsOf rs (old .keys)) (recordsOf (storing (length ts)) (new .keys))
+      → RecordsWritten ts n (fieldsOf rs (old .keys)) (fieldsOf (storing (length ts)) (new .keys))
   records-stored ts n room fits w =
       let m = length ts in
       let ks = new .kinds ++ kinds in
@@ -108,7 +108,7 @@ module _ (rs : List TokenRecord) (old new : Records) (kinds numbers places : Lis
         placesCount = ap length at ∙ onto-length m ps (placesOf rs) hp (rw length-map fits);
         keysCount = w .keysCount;
         placed =
-            same-placed ts n new (recordsOf (storing m) (new .keys)) refl
+            same-placed ts n new (fieldsOf (storing m) (new .keys)) refl
             (λ i h.
             ap (λ (x : List ℕ). getD x i 0) at ∙ List·getD-append (take m ps) (drop m (placesOf rs)) 0 i (rw (length-take-le m ps hp) h)
             ∙ getD-take m ps i 0 h ∙ List·getD-append (new .places) places 0 i (omega (arith, h, w .placesCount)))
@@ -124,6 +124,6 @@ module _ (rs : List TokenRecord) (old new : Records) (kinds numbers places : Lis
       drop-at (take m us) (drop m rs) m (length-take-le m us long)
 
   pub stored : (w : Writing) → countOf w ≤ length (old .places) → countOf w ≤ length rs → Writes w old new
-      → Writes w (recordsOf rs (old .keys)) (recordsOf (storing (countOf w)) (new .keys))
+      → Writes w (fieldsOf rs (old .keys)) (fieldsOf (storing (countOf w)) (new .keys))
   stored (Writing.refused r) room fits e = rw e
   stored (Writing.writes ts n) room fits w = records-stored ts n room fits w

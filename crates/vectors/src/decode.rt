@@ -4,7 +4,7 @@ use crate::case::first_halves;
 use crate::case::first_words;
 use crate::case::part;
 use crate::case::word;
-use covenant::answers::DecodeAnswer;
+use answers::DecodeAnswer;
 ghost use mathlib.Core.Path.{_≡_};
 ghost use lib.ListN.{length};
 

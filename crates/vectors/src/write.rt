@@ -2,7 +2,7 @@
 use crate::case;
 use crate::case::part;
 use crate::case::word;
-use covenant::answers::WriteAnswer;
+use answers::WriteAnswer;
 ghost use mathlib.Core.Path.{_≡_};
 ghost use Prim.Native.Nat.{_≤_};
 ghost use lib.ListN.{length};

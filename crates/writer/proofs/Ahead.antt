@@ -6,7 +6,7 @@ use mathlib.Core.List.{List}
 use native.Mathlib.Omega.{arith}
 use lib.ListN.{length}
 use Rattle.semantics.specs.Code.{known}
-use Rattle.condition.specs.declared.Summary.{Summary}
+use Rattle.summary.specs.declared.Summary.{Summary}
 use Rattle.condition.specs.declared.Walked.{Walked}
 use Rattle.condition.specs.Walk.{next, start, walked}
 use Rattle.condition.proofs.Onward.{Onward, next-tokens, onward, so-far, some-token}

@@ -13,7 +13,6 @@ use Rattle.semantics.specs.declared.Checked.{Checked}
 use Rattle.semantics.specs.declared.Refusal.{Refusal}
 use Rattle.semantics.specs.declared.Written.{Written}
 use Rattle.semantics.specs.Check.{Condition, checked, condition, firstOf, unless}
-use Rattle.semantics.specs.Code.{maxTokens}
 use Rattle.semantics.specs.Evaluate.{over}
 use Rattle.semantics.specs.Oracle.{oracles}
 use Rattle.semantics.specs.Records.{Records}
@@ -24,7 +23,7 @@ use Rattle.semantics.proofs.Forms.{form-keys, form-sound}
 use Rattle.semantics.proofs.Passing.{Passing, answered-passed, answered-refused, passing}
 use Rattle.semantics.proofs.Placing.{in-order, length-places}
 use Rattle.semantics.proofs.Tests.{and-true}
-use Rattle.condition.proofs.Onward.{accepted, accepted-oracles}
+use Rattle.condition.proofs.Onward.{accepted, few-oracles}
 use Rattle.writer.specs.Marks.{Fits, marksOf, narrowCode}
 use Rattle.writer.specs.Storing.{Coded, Room, Stored, emitted, keysOf, placesFrom}
 use Rattle.writer.proofs.OfTree.{emitted-form, narrow-emitted}
@@ -53,9 +52,6 @@ fits b t m waiting marks e h k =
 
 pub coded : (b : List ℕ) (t m marks : ℕ) → checked b ≡ Checked.Passed t m → t ≤ marks → Coded b marks
 coded b t m marks e h = let a = accepted b t m e in record { last = a .last; walk = a .walk; marks-fit = omega (arith, a .tokens-are, h) }
-
-pub few-oracles : (b : List ℕ) (t m : ℕ) → checked b ≡ Checked.Passed t m → m ≤ maxTokens
-few-oracles b t m e = let a = accepted b t m e in omega (arith, a .few, accepted-oracles b t m a)
 
 -- what stands after what is written over
 rest-of : (ws xs : List ℕ) (n : ℕ) → length ws ≡ n → drop n (over ws xs) ≡ drop n xs

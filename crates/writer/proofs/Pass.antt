@@ -14,7 +14,7 @@ use Rattle.semantics.specs.declared.Command.{Command}
 use Rattle.semantics.specs.Code.{commandOf, commandRow, maxTokens}
 use Rattle.semantics.specs.Parse.{Instruction, after, commandAt, fold, instructions, operandsAt}
 use Rattle.semantics.proofs.Machine.{fold-ends, fold-takes}
-use Rattle.condition.specs.declared.Summary.{Summary}
+use Rattle.summary.specs.declared.Summary.{Summary}
 use Rattle.condition.specs.Walk.{next, start}
 use Rattle.writer.specs.Marks.{Fits, Found, Marking, Ready, markStep, markingIn, marksOf, narrowCode, narrowStep, settled, stackIn}
 use Rattle.writer.proofs.Ahead.{Ahead, ahead-below, ahead-next, ahead-start, passes-on}

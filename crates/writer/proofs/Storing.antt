@@ -16,7 +16,7 @@ use Rattle.semantics.specs.Parse.{Instruction, after, commandAt, fold, instruct
 use Rattle.semantics.specs.Records.{Records, recordsOf}
 use Rattle.semantics.proofs.Machine.{fold-ends, fold-takes}
 use Rattle.semantics.proofs.Placing.{length-places}
-use Rattle.condition.specs.declared.Summary.{Summary}
+use Rattle.summary.specs.declared.Summary.{Summary}
 use Rattle.condition.specs.Walk.{next, start}
 use Rattle.writer.specs.declared.table.Run.{Run}
 use Rattle.writer.specs.Runs.{bit, numberAt, operandBytes, payload, placeAt, run, runOf}

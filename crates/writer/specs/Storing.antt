@@ -9,7 +9,7 @@ use Rattle.semantics.specs.Operations.{Token}
 use Rattle.semantics.specs.Evaluate.{over}
 use Rattle.semantics.specs.Parse.{fold, instructions}
 use Rattle.semantics.specs.Records.{Records}
-use Rattle.condition.specs.declared.Summary.{Summary}
+use Rattle.summary.specs.declared.Summary.{Summary}
 use Rattle.condition.specs.declared.Walked.{Walked}
 use Rattle.condition.specs.Walk.{walked}
 use Rattle.writer.specs.Runs.{run}

@@ -1,6 +1,6 @@
 // Which commands end the left operand of an index Mul or Div: after their tokens stands a ScriptNumToLe64. One pass over the commands marks them.
-use condition::command_of;
-use condition::width_of;
+use commands::command_of;
+use commands::width_of;
 use semantics::Command;
 use semantics::IdxOp;
 ghost use mathlib.Core.Bool.{true};

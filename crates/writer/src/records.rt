@@ -1,7 +1,7 @@
 // The records of a condition's tokens, command by command: each command is lent the rest of the four buffers.
 use crate::table::run_of;
-use condition::command_of;
-use condition::width_of;
+use commands::command_of;
+use commands::width_of;
 use semantics::Command;
 ghost use mathlib.Core.Bool.{true};
 ghost use mathlib.Core.Path.{_≡_};

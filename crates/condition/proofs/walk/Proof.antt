@@ -8,8 +8,10 @@ use native.Mathlib.Omega.{arith}
 use lib.ListN.{length}
 use Rattle.semantics.specs.declared.Command.{Command}
 use Rattle.semantics.specs.Code.{commandRow}
-use Rattle.condition.specs.Walk.{Small, stepped, walked}
-use Rattle.condition.proofs.Steps.{small-next, step-failed, step-passed, walk-ends, walk-fails, walk-follows, walk-short, walk-takes, walkFrom}
+use Rattle.summary.specs.Step.{Small, stepped}
+use Rattle.summary.proofs.Bounds.{small-next}
+use Rattle.condition.specs.Walk.{walked}
+use Rattle.condition.proofs.Steps.{step-failed, step-passed, walk-ends, walk-fails, walk-follows, walk-short, walk-takes, walkFrom}
 use Rattle.condition.proofs.walk.Statement.{statement}
 use Rattle.condition.proofs.walk.Tie as tie
 use Rattle.semantics.specs.Parse.{commandAt}

@@ -1,4 +1,4 @@
--- The answer is Decode's, in numbers, and the buffer is what Decode left.
+-- The answer is Decode's, in numbers, the buffer is what Decode left, and demand 3 is Decode's.
 use borrow.Author.Needs.{needs}
 use mathlib.Core.Path.{refl}
 use Rattle.covenant.proofs.covenant_decode.Statement.{statement}
@@ -11,4 +11,4 @@ covenant-decode-spec =
     (λ c κs. search needs)
     (λ c κs. search needs)
     (λ c. search needs)
-    (λ c. rw (← c .before .before .before .decode .ensures .0) (c .decode-answer .ensures, refl)))
+    (λ c. rw (← c .before .before .before .decode .ensures .0) (c .decode-answer .ensures, refl, c .before .before .before .decode .ensures .1)))

@@ -7,7 +7,8 @@ use borrow.Author.Tests.{not-false, not-true}
 use Rattle.slices.proofs.Bytes.{all-of}
 use Rattle.semantics.specs.Evaluate.{Lent}
 use Rattle.operations.specs.Lists.{envOf}
-use Rattle.evaluation.proofs.Calls.{answers, bounded, few-oracles, refused-amounts, refused-buffer, refused-first, refused-witness, sound-paired}
+use Rattle.condition.proofs.Onward.{few-oracles}
+use Rattle.evaluation.proofs.Calls.{answers, bounded, refused-amounts, refused-buffer, refused-first, refused-witness, sound-paired}
 use Rattle.evaluation.proofs.evaluate.Statement.{statement}
 use Rattle.evaluation.proofs.evaluate.Tie as tie
 

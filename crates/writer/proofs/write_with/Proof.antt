@@ -6,7 +6,8 @@ use native.Mathlib.Omega.{arith}
 use borrow.Author.Tests.{not-false, not-true}
 use Rattle.slices.proofs.Bytes.{all-of}
 use Rattle.semantics.specs.Records.{recordsOf}
-use Rattle.writer.proofs.Answers.{coded, few-oracles, fits, key-bytes, refused-narrow, refused-room, room, wrote}
+use Rattle.condition.proofs.Onward.{few-oracles}
+use Rattle.writer.proofs.Answers.{coded, fits, key-bytes, refused-narrow, refused-room, room, wrote}
 use Rattle.writer.proofs.write_with.Statement.{statement}
 use Rattle.writer.proofs.write_with.Tie as tie
 

@@ -49,12 +49,12 @@ use Rattle.records.proofs.load as ld
 use Rattle.records.proofs.load.Symbol as ld-def
 use Rattle.records.proofs.load.Symbol.{name as #records·load}
 use Rattle.records.proofs.load.Met as ld-thm
-use Rattle.covenant.specs.declared.answers.DecodeAnswer.{DecodeAnswer}
+use Rattle.answers.specs.declared.DecodeAnswer.{DecodeAnswer}
 use Rattle.covenant.specs.TokenRecords.{DecodesRecords, Loaded, loadable}
-use Rattle.covenant.proofs.Arrays.{big-lit, aval, Is-array, fresh, lends-zeros, takes-back, zval-typed, shared, Part, lends-shared, shared-back}
+use Rattle.covenant.proofs.Arrays.{big-lit, aval, Is-array, fresh, lends-zeros, takes-back, zeros, zval-typed, shared, Part, lends-shared, shared-back}
 use Rattle.covenant.proofs.Loaded.{loadable-few, loads}
-use Rattle.covenant.proofs.answers.DecodeAnswer as D
-use Rattle.covenant.proofs.answers.DecodeAnswer.Laws as D′
+use Rattle.answers.proofs.DecodeAnswer as D
+use Rattle.answers.proofs.DecodeAnswer.Laws as D′
 use Rattle.covenant.proofs.token_records.to_load as tl
 use Rattle.covenant.proofs.token_records.to_load.Symbol as tl-def
 use Rattle.covenant.proofs.token_records.to_load.Symbol.{name as #covenant·token-records·to-load}
@@ -70,9 +70,6 @@ use Rattle.covenant.proofs.token_records.covenant_decode_records.Code a
 
 abbrev stayed : Stays (f.ended .signature .params) (f.ended .kept)
 stayed = (stay-none-slice (0 ∷ []) tt (plain (λ _. T.the-row)) yes, (stay-none-slice (1 ∷ []) tt (plain (λ _. u8)) yes, (gave-slice (2 ∷ []) tt (plain (λ _. u8)), tt)))
-
-abbrev zeros : List ℕ
-zeros = replicate 1024 0
 
 module _ {M : Type 1} (𝓤 : URA M) (H : Heap 𝓤) (A : Atoms 𝓤) (mem : Memory → SProp 𝓤) (run : Routine → Fun 𝓤) where
   -- the contracts that the proof cites

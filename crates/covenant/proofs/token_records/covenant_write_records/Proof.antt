@@ -51,11 +51,11 @@ use Rattle.records.proofs.store as st
 use Rattle.records.proofs.store.Symbol as st-def
 use Rattle.records.proofs.store.Symbol.{name as #records·store}
 use Rattle.records.proofs.store.Met as st-thm
-use Rattle.covenant.specs.declared.answers.WriteAnswer.{WriteAnswer}
+use Rattle.answers.specs.declared.WriteAnswer.{WriteAnswer}
 use Rattle.covenant.specs.TokenRecords.{WritesFields}
-use Rattle.covenant.proofs.Arrays.{big-lit, aval, Is-array, fresh, lends-zeros, takes-back, zval-typed, shared, Part, lends-shared, shared-back}
-use Rattle.covenant.proofs.answers.WriteAnswer as D
-use Rattle.covenant.proofs.answers.WriteAnswer.Laws as D′
+use Rattle.covenant.proofs.Arrays.{big-lit, aval, Is-array, fresh, lends-zeros, takes-back, zeros, zval-typed, shared, Part, lends-shared, shared-back}
+use Rattle.answers.proofs.WriteAnswer as D
+use Rattle.answers.proofs.WriteAnswer.Laws as D′
 use Rattle.covenant.proofs.token_records.write_fields as wf
 use Rattle.covenant.proofs.token_records.write_fields.Symbol as wf-def
 use Rattle.covenant.proofs.token_records.write_fields.Symbol.{name as #covenant·token-records·write-fields}
@@ -67,9 +67,6 @@ use Rattle.covenant.proofs.token_records.covenant_write_records.Code as
 
 abbrev stayed : Stays (f.ended .signature .params) (f.ended .kept)
 stayed = (stay-none-slice (0 ∷ []) tt (plain (λ _. u8)) yes, (gave-slice (1 ∷ []) tt (plain (λ _. T.the-row)), (gave-slice (2 ∷ []) tt (plain (λ _. u8)), tt)))
-
-abbrev zeros : List ℕ
-zeros = replicate 1024 0
 
 abbrev d-val : WriteAnswer → Val
 d-val = LL.val D.the-type D′.the-laws

@@ -5,7 +5,7 @@ use mathlib.Core.Path.{_∙_, ap, sym}
 use native.Mathlib.Omega.{arith}
 use lib.Seq.{length-take-le}
 use Rattle.slices.proofs.Bytes.{all-of}
-use Rattle.covenant.specs.Answers.{writeAnswer}
+use Rattle.answers.specs.Answers.{writeAnswer}
 use Rattle.covenant.proofs.Loaded.{fields-written, writable-few}
 use Rattle.covenant.proofs.token_records.write_fields.Statement.{statement}
 use Rattle.covenant.proofs.token_records.write_fields.Tie as tie

@@ -1,0 +1,67 @@
+// What a byte of condition code stands for, and how many operand bytes stand behind it.
+use semantics::AmountList;
+use semantics::BinOp;
+use semantics::CmpOp;
+use semantics::Command;
+use semantics::IdxOp;
+use semantics::UnOp;
+ghost use mathlib.Core.Path.{_≡_};
+ghost use Rattle.semantics.specs.Code.{commandOf, commandRow};
+
+// The command that a byte stands for.
+pub fn command_of(byte: u8) -> Command
+    ensures { λ r. ⌜ r ≡ commandOf byte ⌝ }
+{
+    match byte {
+        1 => Command::IdxConst,
+        2 => Command::CurrIdx,
+        3 => Command::Index(IdxOp::Add),
+        4 => Command::Index(IdxOp::Sub),
+        5 => Command::Index(IdxOp::Mul),
+        6 => Command::Index(IdxOp::Div),
+        16 => Command::Const,
+        17 => Command::CurrInputIdx,
+        18 => Command::Lookup(AmountList::Input),
+        19 => Command::Lookup(AmountList::Output),
+        20 => Command::Lookup(AmountList::InputIssue),
+        21 => Command::Lookup(AmountList::InputReIssue),
+        22 => Command::Binary(BinOp::Add),
+        23 => Command::Binary(BinOp::Sub),
+        24 => Command::Binary(BinOp::Mul),
+        25 => Command::Binary(BinOp::Div),
+        26 => Command::Binary(BinOp::Mod),
+        27 => Command::Binary(BinOp::BitAnd),
+        28 => Command::Binary(BinOp::BitOr),
+        29 => Command::Binary(BinOp::Xor),
+        30 => Command::Unary(UnOp::Invert),
+        31 => Command::Unary(UnOp::Negate),
+        32 => Command::PriceOracle1,
+        33 => Command::PriceOracle1W,
+        48 => Command::Compare(CmpOp::Eq),
+        49 => Command::Compare(CmpOp::Lt),
+        50 => Command::Compare(CmpOp::Leq),
+        51 => Command::Compare(CmpOp::Gt),
+        52 => Command::Compare(CmpOp::Geq),
+        _ => Command::Unknown,
+    }
+}
+
+// The number of operand bytes of a command.
+pub fn width_of(command: Command) -> usize
+    ensures { λ r. ⌜ r ≡ commandRow command .width ⌝ }
+{
+    match command {
+        Command::Unknown => 0,
+        Command::IdxConst => 8,
+        Command::CurrIdx => 0,
+        Command::Index(_) => 0,
+        Command::Const => 8,
+        Command::CurrInputIdx => 0,
+        Command::Lookup(_) => 0,
+        Command::Binary(_) => 0,
+        Command::Unary(_) => 0,
+        Command::PriceOracle1 => 40,
+        Command::PriceOracle1W => 40,
+        Command::Compare(_) => 0,
+    }
+}
