@@ -1,56 +1,29 @@
 -- What Evaluate answers, by Check's answer, the tests that follow it, and the run.
 use Prim.Native.Nat.{ℕ, _*_, _≤_, _<_}
 use mathlib.Core.Path.{_≡_}
-use mathlib.Core.Bool.{Bool, true, false, _&&_}
+use mathlib.Core.Bool.{Bool, true, false}
 use mathlib.Core.List.{List, [], _∷_}
 use native.Mathlib.Omega.{arith}
-use borrow.Author.Tests.{eqb-true, le-leb, lt-leb}
-use lib.Dec.{eqb, leb}
+use borrow.Author.Tests.{le-leb, lt-leb}
+use lib.Dec.{leb}
 use lib.ListN.{length}
 use lib.Seq.{take-length}
 use Rattle.slices.specs.Bytes.{Bytes}
 use Rattle.semantics.specs.declared.Checked.{Checked}
 use Rattle.semantics.specs.declared.Refusal.{Refusal}
 use Rattle.semantics.specs.Check.{Condition, checked, condition, firstOf, unless}
-use Rattle.semantics.specs.Evaluate.{Evaluation, Lent, areMarks, ended, endsSound, envSound, evaluated, evaluatedTree, initial, paired, refusedCall, unlessRefused}
-use Rattle.semantics.specs.Evaluation.{Amounts, Env, evalArith}
+use Rattle.semantics.specs.Evaluate.{Evaluation, Lent, ended, endsSound, envSound, evaluated, evaluatedTree, initial, refusedCall, unlessRefused}
+use Rattle.semantics.specs.Code.{maxTokens}
+use Rattle.semantics.specs.Evaluation.{evalArith}
 use Rattle.semantics.specs.Oracle.{oracles}
 use Rattle.semantics.specs.Parse.{fold, instructions}
 use Rattle.semantics.specs.Trees.{Arith}
 use Rattle.semantics.proofs.Passing.{answered-passed, answered-refused, passing}
 use Rattle.semantics.proofs.Run.{run-code}
-use Rattle.semantics.proofs.Tests.{and-true}
 use Rattle.condition.proofs.Onward.{accepted}
-use Rattle.operations.specs.Elements.{leftOf, stateOf}
-use Rattle.operations.specs.Lists.{Paired}
+use Rattle.witness.specs.Elements.{leftOf, stateOf}
 use Rattle.evaluation.specs.Run.{Answers, Bounded}
 use Rattle.semantics.specs.Run.{Run, runStep}
-
--- sound lists are paired
-paired-lengths : (a : Amounts) → paired a ≡ true → length (a .numbers) ≡ length (a .marks)
-paired-lengths a e =
-    eqb-true (length (a .numbers)) (length (a .marks)) (and-true (eqb (length (a .numbers)) (length (a .marks))) (areMarks (a .marks)) e .0)
-
-pub sound-paired : (env : Env) → envSound env ≡ true → Paired env
-sound-paired env e =
-    let n : Amounts → ℕ = λ a. length (a .numbers) in
-    let x = eqb (n (env .issued)) (n (env .spent)) in
-    let y = eqb (n (env .reissued)) (n (env .spent)) in
-    let a = paired (env .spent) in
-    let b = paired (env .outputs) in
-    let c = paired (env .issued) in
-    let d = paired (env .reissued) in
-    let p = and-true (a && b && c && d && x) y e in
-    let q = and-true (a && b && c && d) x (p .0) in
-    let r = and-true (a && b && c) d (q .0) in
-    let s = and-true (a && b) c (r .0) in
-    let t = and-true a b (s .0) in
-    record {
-      spent = paired-lengths (env .spent) (t .0);
-      outputs = paired-lengths (env .outputs) (t .1);
-      issued = paired-lengths (env .issued) (s .1);
-      reissued = paired-lengths (env .reissued) (r .1);
-    }
 
 -- before the first step
 initial-state : (l : Lent) → stateOf (l .witness) (l .ends) (l .buffer) (length (l .ends)) 0 ≡ initial l

@@ -1,5 +1,4 @@
 -- Laws of what the specs of this crate define, one file a subject.
-pub mod Stack
-pub mod Ready
+pub mod Moves
 pub mod Loop
 pub mod Calls

@@ -27,11 +27,12 @@ use Rattle.condition.specs.declared.Walked.{Walked}
 use Rattle.condition.specs.Walk.{counted, foldTerminals, next, start, terminalsOf, walked}
 use Rattle.condition.proofs.Onward.{Onward, SoFar, height, inside, next-oracles, next-tokens, onward, oracles-grow, so-far, some-token}
 use Rattle.condition.proofs.Steps.{walkFrom}
-use Rattle.evaluation.specs.declared.stacks.Turn.{Turn}
-use Rattle.operations.specs.Elements.{stateOf}
-use Rattle.evaluation.specs.Run.{Answers, Fits, Moves, Ready, Supplied, concluded, indexesIn, runOf, stackOf, valuesIn}
-use Rattle.operations.proofs.Elements.{left-count}
-use Rattle.evaluation.proofs.Stack.{length-stack}
+use Rattle.stacks.specs.declared.Turn.{Turn}
+use Rattle.witness.specs.Elements.{stateOf}
+use Rattle.evaluation.specs.Run.{Answers, Fits, Moves, Supplied}
+use Rattle.stacks.specs.Stacks.{Ready, concluded, indexesIn, runOf, stackOf, valuesIn}
+use Rattle.witness.proofs.Elements.{left-count}
+use Rattle.stacks.proofs.Stack.{length-stack}
 use Rattle.semantics.specs.Run.{Run, act, operand, pushIndex, pushValue, runStep}
 
 -- ---- how many wait after a command that goes on

@@ -1,47 +1,19 @@
--- The state of evaluation as the code holds it, and what one command does to it: the machine of semantics/proofs/Run.antt.
-use Prim.Native.Nat.{ℕ, zero, suc, _+_, _*_, _≤_, _<_}
-use mathlib.Core.Bool.{Bool, true}
+-- What a command goes by and keeps, what the loop over them goes by, and what it answers.
+use Prim.Native.Nat.{ℕ, _+_, _*_, _≤_}
+use mathlib.Core.Bool.{true}
 use mathlib.Core.Path.{_≡_}
-use mathlib.Core.List.{List, [], _∷_}
-use lib.IntN.{ℤ, pos}
-use lib.ListN.{length, getD, drop}
+use mathlib.Core.List.{List}
+use lib.IntN.{ℤ}
+use lib.ListN.{length, drop}
 use Rattle.semantics.specs.declared.Command.{Command}
-use Rattle.semantics.specs.declared.Verdict.{Verdict}
 use Rattle.semantics.specs.Code.{commandRow, maxTokens}
-use Rattle.semantics.specs.Evaluation.{Outcome, State, err, ok}
 use Rattle.semantics.specs.Evaluate.{Evaluation, ended, endsSound}
 use Rattle.summary.specs.declared.Summary.{Summary}
 use Rattle.condition.specs.declared.Walked.{Walked}
 use Rattle.condition.specs.Walk.{counted, foldTerminals, terminalsOf, walked}
-use Rattle.evaluation.specs.declared.stacks.Turn.{Turn}
 use Rattle.semantics.specs.Run.{Run}
 
--- the first n operands of an array, the last one first
-abbrev pub stackOf : (ℕ → ℤ) → ℕ → List ℤ
-stackOf f zero = []
-stackOf f (suc n) = f n ∷ stackOf f n
-
-abbrev pub valuesIn : List ℤ → ℕ → List ℤ
-valuesIn values n = stackOf (λ k. getD values k (pos 0)) n
-
-abbrev pub indexesIn : List ℕ → ℕ → List ℤ
-indexesIn indexes n = stackOf (λ k. pos (getD indexes k 0)) n
-
-abbrev pub concluded : Verdict → State → Outcome Bool
-concluded (Verdict.Is v) st = ok v st
-concluded (Verdict.Refused r) st = err r st
-
-abbrev pub runOf : List ℤ → List ℕ → State → Turn → Run
-runOf values indexes st (Turn.On v i) = Run.going (valuesIn values v) (indexesIn indexes i) st
-runOf values indexes st (Turn.Ended v) = Run.stopped (concluded v st)
-
--- what a command may go by: its operands wait, and its result has room
-pub record Ready (c : Command) (v i : ℕ) (values : List ℤ) (indexes : List ℕ) : Type 0 where
-  pub met : commandRow c .need v i ≡ true
-  pub values-fit : v + i < length values
-  pub indexes-fit : v + i < length indexes
-
--- and its operand bytes are there, the witness is sound, and there is room for the check of an oracle terminal
+-- a command's operand bytes are there, the witness is sound, and there is room for the check of an oracle terminal
 pub record Supplied (c : Command) (code : List ℕ) (at : ℕ) (witness ends out : List ℕ) (left checks : ℕ) : Type 0 where
   pub operands : at + commandRow c .width ≤ length code
   pub room : 112 * foldTerminals counted checks (terminalsOf c) ≤ length out

@@ -10,13 +10,12 @@ ghost use mathlib.Core.List.{[]};
 ghost use lib.ListN.{length};
 ghost use Rattle.semantics.specs.Evaluate.{endsSound, evaluated};
 ghost use Rattle.semantics.specs.Parse.{fold, instructions};
-ghost use Rattle.operations.specs.Lists.{Paired, envOf};
-ghost use Rattle.operations.specs.Elements.{stateOf};
+ghost use Rattle.amounts.specs.Lists.{envOf};
+ghost use Rattle.witness.specs.Elements.{stateOf};
 ghost use Rattle.evaluation.specs.Run.{Answers, Bounded};
 ghost use Rattle.semantics.specs.Run.{Run, runStep};
 
 mod run;
-mod stacks;
 
 // Conditions of so few tokens are evaluated in smaller arrays, which take less time to make.
 const FEW_TOKENS: usize = 64;
@@ -38,7 +37,6 @@ fn run_passed(
     out: &mut [u8],
     tokens: usize,
 ) -> Evaluated
-    requires { ⌜ Paired (envOf (now spent) (now «spent_marks») (now outputs) (now «output_marks») (now issued) (now «issued_marks») (now reissued) (now «reissued_marks») 0) ⌝ }
     requires { ⌜ endsSound 0 (length (now witness)) (now ends) ≡ true ⌝ }
     requires { ⌜ Bounded (now code) tokens (length (now out)) ⌝ }
     ensures { λ r. ⌜ Answers (now (out .entry)) (fold (runStep (envOf (now (spent .entry)) (now («spent_marks» .entry)) (now (outputs .entry)) (now («output_marks» .entry)) (now (issued .entry)) (now («issued_marks» .entry)) (now (reissued .entry)) (now («reissued_marks» .entry)) current)) (Run.going [] [] (stateOf (now (witness .entry)) (now (ends .entry)) (now (out .entry)) (length (now (ends .entry))) 0)) (instructions (now (code .entry)))) (record { answer = r; buffer = now (out .exit) }) ⌝ }
@@ -117,7 +115,7 @@ pub fn evaluate(
     match condition::check(code) {
         Checked::Refused(r) => refused(r, ends.len()),
         Checked::Passed { tokens, oracles } => {
-            if !operations::amounts::amounts_sound(
+            if !amounts::amounts_sound(
                 spent,
                 spent_marks,
                 outputs,
@@ -129,7 +127,7 @@ pub fn evaluate(
             ) {
                 return refused(Refusal::AmountsUnsound, ends.len());
             }
-            if !operations::witness::ends_sound(ends, witness.len()) {
+            if !witness::ends_sound(ends, witness.len()) {
                 return refused(Refusal::WitnessUnsound, ends.len());
             }
             if out.len() < 112 * oracles {

@@ -1,19 +1,12 @@
 // One pass over the commands of a condition that Check let pass.
-use crate::stacks::Turn;
-use crate::stacks::last_index;
-use crate::stacks::push_index;
-use crate::stacks::push_value;
-use crate::stacks::step_binary;
-use crate::stacks::step_compare;
-use crate::stacks::step_index;
-use crate::stacks::step_unary;
-use num64::Step;
-use operations::amounts::looked_up;
-use operations::witness::ask;
+use amounts::looked_up;
 use semantics::AmountList;
 use semantics::Command;
 use semantics::Evaluated;
-use semantics::Value;
+use stacks::Effect;
+use stacks::Turn;
+use stacks::push_value;
+use witness::ask;
 ghost use mathlib.Core.Bool.{true};
 ghost use mathlib.Core.Path.{_≡_};
 ghost use mathlib.Core.List.{List, []};
@@ -26,10 +19,11 @@ ghost use Rattle.semantics.specs.Code.{commandRow};
 ghost use Rattle.semantics.specs.Evaluation.{State, lookedUp, oracle, outcome};
 ghost use Rattle.semantics.specs.Evaluate.{endsSound};
 ghost use Rattle.semantics.specs.Parse.{fold, instructions};
-ghost use Rattle.operations.specs.Lists.{Paired, envOf};
-ghost use Rattle.operations.specs.Elements.{stateOf};
-ghost use Rattle.operations.specs.Oracle.{Asks, keyAt, timeAt};
-ghost use Rattle.evaluation.specs.Run.{Answers, Fits, Moves, Ready, Supplied, indexesIn, runOf, valuesIn};
+ghost use Rattle.amounts.specs.Lists.{envOf};
+ghost use Rattle.witness.specs.Elements.{stateOf};
+ghost use Rattle.witness.specs.Oracle.{Asks, keyAt, timeAt};
+ghost use Rattle.evaluation.specs.Run.{Answers, Fits, Moves, Supplied};
+ghost use Rattle.stacks.specs.Stacks.{Ready, indexesIn, runOf, valuesIn};
 ghost use Rattle.semantics.specs.Run.{Run, act, pushValue, runStep};
 
 // An oracle terminal, whose key and time stand at `at`: its price is pushed.
@@ -49,7 +43,7 @@ fn step_oracle(
     ensures { λ r. ⌜ Moves Command.PriceOracle1 (now (left .entry)) (now (checks .entry)) (now (left .exit)) (now (checks .exit)) (now (out .entry)) (now (out .exit)) ⌝ }
     ensures { λ r. ⌜ ((idxs : List ℕ) → runOf (now (vals .exit)) idxs (stateOf (now (witness .entry)) (now (ends .entry)) (now (out .exit)) (now (left .exit)) (now (checks .exit))) r ≡ pushValue (valuesIn (now (vals .entry)) values) (indexesIn idxs indexes) (oracle (keyAt (now (code .entry)) at) (timeAt (now (code .entry)) at) (stateOf (now (witness .entry)) (now (ends .entry)) (now (out .entry)) (now (left .entry)) (now (checks .entry))))) ⌝ }
 {
-    let a = ask(code, at, witness, ends, out, *left, *checks);
+    let a = witness::ask(code, at, witness, ends, out, *left, *checks);
     *left = a.left;
     *checks = a.checks;
     let value = a.value;
@@ -72,10 +66,10 @@ fn step_lookup(
     values: usize,
     indexes: usize,
 ) -> Turn
-    requires { ⌜ Paired (envOf (now spent) (now «spent_marks») (now outputs) (now «output_marks») (now issued) (now «issued_marks») (now reissued) (now «reissued_marks») 0) × (values < length (now vals)) ⌝ }
+    requires { ⌜ values < length (now vals) ⌝ }
     ensures { λ r. ⌜ ((current : ℕ) (idxs : List ℕ) (st : State) → runOf (now (vals .exit)) idxs st r ≡ pushValue (valuesIn (now (vals .entry)) values) (indexesIn idxs indexes) (outcome (lookedUp (envOf (now (spent .entry)) (now («spent_marks» .entry)) (now (outputs .entry)) (now («output_marks» .entry)) (now (issued .entry)) (now («issued_marks» .entry)) (now (reissued .entry)) (now («reissued_marks» .entry)) current) list (some (pos i))) st)) ⌝ }
 {
-    let v = looked_up(
+    let v = amounts::looked_up(
         list,
         spent,
         spent_marks,
@@ -114,42 +108,16 @@ fn step(
     left: &mut usize,
     checks: &mut usize,
 ) -> Turn
-    requires { ⌜ Paired (envOf (now spent) (now «spent_marks») (now outputs) (now «output_marks») (now issued) (now «issued_marks») (now reissued) (now «reissued_marks») 0) ⌝ }
     requires { ⌜ Ready command values indexes (now vals) (now idxs) ⌝ }
     requires { ⌜ Supplied command (now code) at (now witness) (now ends) (now out) (now left) (now checks) ⌝ }
     ensures { λ r. ⌜ Moves command (now (left .entry)) (now (checks .entry)) (now (left .exit)) (now (checks .exit)) (now (out .entry)) (now (out .exit)) ⌝ }
     ensures { λ r. ⌜ runOf (now (vals .exit)) (now (idxs .exit)) (stateOf (now (witness .entry)) (now (ends .entry)) (now (out .exit)) (now (left .exit)) (now (checks .exit))) r ≡ act (envOf (now (spent .entry)) (now («spent_marks» .entry)) (now (outputs .entry)) (now («output_marks» .entry)) (now (issued .entry)) (now («issued_marks» .entry)) (now (reissued .entry)) (now («reissued_marks» .entry)) current) command (take (commandRow command .width) (drop at (now (code .entry)))) (valuesIn (now (vals .entry)) values) (indexesIn (now (idxs .entry)) indexes) (stateOf (now (witness .entry)) (now (ends .entry)) (now (out .entry)) (now (left .entry)) (now (checks .entry))) ⌝ }
 {
-    match command {
-        Command::Unknown => Turn::On(values, indexes),
-        Command::IdxConst => {
-            let n = slices::read_le64(code, at);
-            push_index(idxs, Step::Value(n), values, indexes)
-        }
-        Command::CurrIdx => push_index(idxs, Step::Value(current), values, indexes),
-        Command::Index(op) => step_index(op, idxs, values, indexes),
-        Command::Const => {
-            let z = word64::signed(slices::read_le64(code, at));
-            push_value(vals, Value::Number(z), values, indexes)
-        }
-        Command::CurrInputIdx => step_lookup(
-            AmountList::Input,
-            current,
-            spent,
-            spent_marks,
-            outputs,
-            output_marks,
-            issued,
-            issued_marks,
-            reissued,
-            reissued_marks,
-            vals,
-            values,
-            indexes,
-        ),
-        Command::Lookup(list) => step_lookup(
+    match stacks::step(command, code, at, current, vals, idxs, values, indexes) {
+        Effect::Turned(turn) => turn,
+        Effect::Amount(list, i, rest) => step_lookup(
             list,
-            last_index(idxs, indexes),
+            i,
             spent,
             spent_marks,
             outputs,
@@ -160,11 +128,9 @@ fn step(
             reissued_marks,
             vals,
             values,
-            indexes - 1,
+            rest,
         ),
-        Command::Binary(op) => step_binary(op, vals, values, indexes),
-        Command::Unary(op) => step_unary(op, vals, values, indexes),
-        Command::PriceOracle1 => step_oracle(
+        Effect::Oracle => step_oracle(
             code,
             at,
             witness,
@@ -176,19 +142,6 @@ fn step(
             left,
             checks,
         ),
-        Command::PriceOracle1W => step_oracle(
-            code,
-            at,
-            witness,
-            ends,
-            out,
-            vals,
-            values,
-            indexes,
-            left,
-            checks,
-        ),
-        Command::Compare(op) => step_compare(op, vals, values),
     }
 }
 
@@ -210,7 +163,6 @@ pub fn run(
     vals: &mut [i64],
     idxs: &mut [u64],
 ) -> Evaluated
-    requires { ⌜ Paired (envOf (now spent) (now «spent_marks») (now outputs) (now «output_marks») (now issued) (now «issued_marks») (now reissued) (now «reissued_marks») 0) ⌝ }
     requires { ⌜ endsSound 0 (length (now witness)) (now ends) ≡ true ⌝ }
     requires { ⌜ Fits (now code) (now vals) (now idxs) (now out) ⌝ }
     ensures { λ r. ⌜ Answers (now (out .entry)) (fold (runStep (envOf (now (spent .entry)) (now («spent_marks» .entry)) (now (outputs .entry)) (now («output_marks» .entry)) (now (issued .entry)) (now («issued_marks» .entry)) (now (reissued .entry)) (now («reissued_marks» .entry)) current)) (Run.going [] [] (stateOf (now (witness .entry)) (now (ends .entry)) (now (out .entry)) (length (now (ends .entry))) 0)) (instructions (now (code .entry)))) (record { answer = r; buffer = now (out .exit) }) ⌝ }

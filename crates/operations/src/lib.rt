@@ -1,4 +1,4 @@
-// What the commands compute: operations on numbers and on indexes here, amounts and oracle terminals in their modules.
+// What the commands compute: operations on numbers and on indexes.
 use num64::Signed64;
 use num64::Step;
 use semantics::BinOp;
@@ -12,9 +12,7 @@ ghost use lib.IntN.{pos};
 ghost use Rattle.num64.specs.Steps.{stepped};
 ghost use Rattle.semantics.specs.Operations.{binRow, cmpRow, idxRow, orRefused, unRow};
 
-pub mod amounts;
-pub mod witness;
-
+// A number that fits, or the refusal that an overflow is.
 fn or_refused(s: Signed64, r: Refusal) -> Value
     ensures { λ v. ⌜ v ≡ orRefused s r ⌝ }
 {
@@ -24,6 +22,7 @@ fn or_refused(s: Signed64, r: Refusal) -> Value
     }
 }
 
+// A command with two operands, x the left one.
 pub fn binary(op: BinOp, x: i64, y: i64) -> Value
     ensures { λ r. ⌜ r ≡ binRow op .result x y ⌝ }
 {
@@ -39,6 +38,7 @@ pub fn binary(op: BinOp, x: i64, y: i64) -> Value
     }
 }
 
+// A command with one operand.
 pub fn unary(op: UnOp, x: i64) -> Value
     ensures { λ r. ⌜ r ≡ unRow op .result x ⌝ }
 {
@@ -48,6 +48,7 @@ pub fn unary(op: UnOp, x: i64) -> Value
     }
 }
 
+// The verdict of a comparison, x its left side.
 pub fn compare(op: CmpOp, x: i64, y: i64) -> bool
     ensures { λ r. ⌜ r ≡ cmpRow op .result x y ⌝ }
 {
@@ -60,6 +61,7 @@ pub fn compare(op: CmpOp, x: i64, y: i64) -> bool
     }
 }
 
+// An index step, exact on whole numbers, x its left operand; what leaves 0 to 2^64 - 1, or divides by 0, is an overflow.
 pub fn index(op: IdxOp, x: u64, y: u64) -> Step
     ensures { λ r. ⌜ stepped r ≡ idxRow op .result (pos x) (pos y) ⌝ }
 {

@@ -6,9 +6,9 @@ use native.Mathlib.Omega.{arith}
 use borrow.Author.Tests.{not-false, not-true}
 use Rattle.slices.proofs.Bytes.{all-of}
 use Rattle.semantics.specs.Evaluate.{Lent}
-use Rattle.operations.specs.Lists.{envOf}
+use Rattle.amounts.specs.Lists.{envOf}
 use Rattle.condition.proofs.Onward.{few-oracles}
-use Rattle.evaluation.proofs.Calls.{answers, bounded, refused-amounts, refused-buffer, refused-first, refused-witness, sound-paired}
+use Rattle.evaluation.proofs.Calls.{answers, bounded, refused-amounts, refused-buffer, refused-first, refused-witness}
 use Rattle.evaluation.proofs.evaluate.Statement.{statement}
 use Rattle.evaluation.proofs.evaluate.Tie as tie
 
@@ -47,8 +47,7 @@ run-passed-requires : tie.Need-run-passed-requires
 run-passed-requires c κs =
     let a = c .before .before .before .before .before .before .before .before .before .before .before .before .before .before .before .before .before .before .before .before .before .before .args in
     let checks = sym (c .before .before .before .before .before .before .before .before .before .check .ensures) ∙ c .before .before .before .before .before .before .before .tokens .given .1 in
-    let amounts = sym (c .before .before .before .before .before .amounts-sound .ensures) ∙ not-false _ (c .before .before .before .before .if1 .left) in
-    (sound-paired (envOf (a .spent .now) (a .spent-marks .now) (a .outputs .now) (a .output-marks .now) (a .issued .now) (a .issued-marks .now) (a .reissued .now) (a .reissued-marks .now) 0) amounts, (sym (c .before .before .before .ends-sound .ensures) ∙ not-false _ (c .before .before .if2 .left), bounded (a .code .now) _ _ _ checks (c .before .if3 .left)))
+    (sym (c .before .before .before .ends-sound .ensures) ∙ not-false _ (c .before .before .if2 .left), bounded (a .code .now) _ _ _ checks (c .before .if3 .left))
 
 returns-4 : tie.Need-returns-4
 returns-4 c =

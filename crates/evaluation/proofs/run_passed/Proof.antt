@@ -12,11 +12,11 @@ run-passed-spec =
     (tie.spec
     (λ c. search needs)
     (λ c. search needs)
-    (λ c κs. let q = c .before .before .before .before .before .before .before .before .before .before .before .before .before .before .before .before .pre in let b = q .1 .1 in let h : b .last .tokens ≤ 64 = omega (arith, b .tokens-are, c .before .before .before .if1 .taken) in (q .0, (q .1 .0, record { last = b .last; walk = b .walk; values-fit = h; indexes-fit = h; room = b .room })))
+    (λ c κs. let q = c .before .before .before .before .before .before .before .before .before .before .before .before .before .before .before .before .pre in let b = q .1 in let h : b .last .tokens ≤ 64 = omega (arith, b .tokens-are, c .before .before .before .if1 .taken) in (q .0, record { last = b .last; walk = b .walk; values-fit = h; indexes-fit = h; room = b .room }))
     (λ c. search needs)
     (λ c. c .before .before .before .before .run .ensures)
     (λ c. search needs)
     (λ c. search needs)
-    (λ c κs. let q = c .before .before .before .before .before .before .before .before .before .before .before .before .before .before .before .before .pre in let b = q .1 .1 in let h : b .last .tokens ≤ maxTokens = omega (arith, b .tokens-are, b .few) in (q .0, (q .1 .0, record { last = b .last; walk = b .walk; values-fit = h; indexes-fit = h; room = b .room })))
+    (λ c κs. let q = c .before .before .before .before .before .before .before .before .before .before .before .before .before .before .before .before .pre in let b = q .1 in let h : b .last .tokens ≤ maxTokens = omega (arith, b .tokens-are, b .few) in (q .0, record { last = b .last; walk = b .walk; values-fit = h; indexes-fit = h; room = b .room }))
     (λ c. search needs)
     (λ c. c .before .before .before .before .run2 .ensures))

@@ -4,7 +4,7 @@ use Prim.Native.Nat.{suc, _+_, _-_}
 use mathlib.Core.Path.{_≡_, refl}
 use native.Mathlib.Omega.{arith}
 use lib.ListN.{length}
-use Rattle.operations.specs.Lists.{envOf}
+use Rattle.amounts.specs.Lists.{envOf}
 use Rattle.evaluation.proofs.Loop.{Loop, loop-ended, loop-inside, loop-next, loop-ready, loop-start, loop-supplied}
 use Rattle.evaluation.proofs.run.run.Statement.{statement}
 use Rattle.evaluation.proofs.run.run.Tie as tie
@@ -20,7 +20,7 @@ abbrev μ-loop : tie.MeasureT-loop
 loop-holds : tie.Need-loop-holds Inv-loop μ-loop
 loop-holds c =
     let a = c .before .before .before .before .before .before .before .before .before .before .before .before .before .args in
-    (refl, refl, refl, loop-start (envOf (a .spent .now) (a .spent-marks .now) (a .outputs .now) (a .output-marks .now) (a .issued .now) (a .issued-marks .now) (a .reissued .now) (a .reissued-marks .now) (a .current)) (a .code .now) (a .witness .now) (a .ends .now) (a .out .now) (a .vals .now) (a .idxs .now) (c .before .before .before .before .before .before .before .before .before .before .before .before .before .pre .1 .1))
+    (refl, refl, refl, loop-start (envOf (a .spent .now) (a .spent-marks .now) (a .outputs .now) (a .output-marks .now) (a .issued .now) (a .issued-marks .now) (a .reissued .now) (a .reissued-marks .now) (a .current)) (a .code .now) (a .witness .now) (a .ends .now) (a .out .now) (a .vals .now) (a .idxs .now) (c .before .before .before .before .before .before .before .before .before .before .before .before .before .pre .1))
 
 step-requires : tie.Need-step-requires Inv-loop μ-loop
 step-requires c κs =
@@ -28,14 +28,14 @@ step-requires c κs =
     let l = c .before .before .before .before .before .before .before .loop in
     let known = c .before .before .before .before .before .command-of .ensures in
     let p = c .before .before .before .before .before .before .before .before .before .before .before .before .before .before .before .before .before .before .before .before .before .pre in
-    (p .0, (rw known (loop-ready (envOf (a .spent .now) (a .spent-marks .now) (a .outputs .now) (a .output-marks .now) (a .issued .now) (a .issued-marks .now) (a .reissued .now) (a .reissued-marks .now) (a .current)) (a .code .now) (a .witness .now) (a .ends .now) (a .out .now) (l .out) (l .vals) (l .idxs) (l .values) (l .indexes) (l .left) (l .checks) (l .at) (l .inv .3)), rw known (loop-supplied (envOf (a .spent .now) (a .spent-marks .now) (a .outputs .now) (a .output-marks .now) (a .issued .now) (a .issued-marks .now) (a .reissued .now) (a .reissued-marks .now) (a .current)) (a .code .now) (a .witness .now) (a .ends .now) (a .out .now) (l .out) (l .vals) (l .idxs) (l .values) (l .indexes) (l .left) (l .checks) (l .at) (l .inv .3) (p .1 .0))))
+    (rw known (loop-ready (envOf (a .spent .now) (a .spent-marks .now) (a .outputs .now) (a .output-marks .now) (a .issued .now) (a .issued-marks .now) (a .reissued .now) (a .reissued-marks .now) (a .current)) (a .code .now) (a .witness .now) (a .ends .now) (a .out .now) (l .out) (l .vals) (l .idxs) (l .values) (l .indexes) (l .left) (l .checks) (l .at) (l .inv .3)), rw known (loop-supplied (envOf (a .spent .now) (a .spent-marks .now) (a .outputs .now) (a .output-marks .now) (a .issued .now) (a .issued-marks .now) (a .reissued .now) (a .reissued-marks .now) (a .current)) (a .code .now) (a .witness .now) (a .ends .now) (a .out .now) (l .out) (l .vals) (l .idxs) (l .values) (l .indexes) (l .left) (l .checks) (l .at) (l .inv .3) (p .0)))
 
 add-at-2 : tie.Need-add-at-2 Inv-loop μ-loop
 add-at-2 c =
     let a = c .before .before .before .before .before .before .before .before .before .before .before .before .before .before .before .before .before .before .before .before .before .before .before .before .before .before .before .before .before .before .before .args in
     let l = c .before .before .before .before .before .before .before .before .before .before .before .before .before .before .before .before .before .loop in
     let known = c .before .before .before .before .before .before .before .before .before .before .before .before .before .before .before .command-of .ensures in
-    let s = loop-supplied (envOf (a .spent .now) (a .spent-marks .now) (a .outputs .now) (a .output-marks .now) (a .issued .now) (a .issued-marks .now) (a .reissued .now) (a .reissued-marks .now) (a .current)) (a .code .now) (a .witness .now) (a .ends .now) (a .out .now) (l .out) (l .vals) (l .idxs) (l .values) (l .indexes) (l .left) (l .checks) (l .at) (l .inv .3) (c .before .before .before .before .before .before .before .before .before .before .before .before .before .before .before .before .before .before .before .before .before .before .before .before .before .before .before .before .before .before .before .pre .1 .0) in
+    let s = loop-supplied (envOf (a .spent .now) (a .spent-marks .now) (a .outputs .now) (a .output-marks .now) (a .issued .now) (a .issued-marks .now) (a .reissued .now) (a .reissued-marks .now) (a .current)) (a .code .now) (a .witness .now) (a .ends .now) (a .out .now) (l .out) (l .vals) (l .idxs) (l .values) (l .indexes) (l .left) (l .checks) (l .at) (l .inv .3) (c .before .before .before .before .before .before .before .before .before .before .before .before .before .before .before .before .before .before .before .before .before .before .before .before .before .before .before .before .before .before .before .pre .0) in
     omega (arith, s .operands, rw known at (c .width-of .ensures), c .before .before .before .before .before .before .before .before .before .before .before .before .before .before .before .before .before .before .before .before .before .before .before .before .before .before .before .before .before .before .before .good .0 .0)
 
 loop-again : tie.Need-loop-again Inv-loop μ-loop

@@ -1,68 +1,76 @@
--- A command is the one that its arm knows; witness and checks change with an oracle terminal alone (`rests`).
-use borrow.Author.Needs.{needs, sfits-of}
-use Rattle.operations.specs.Elements.{stateOf}
+-- What the stacks do is the callee's; a lookup or an oracle terminal is pushed. Witness and checks change with an oracle terminal alone (`rests`).
+use borrow.Author.Needs.{needs}
+use Prim.Native.Nat.{_+_, _<_}
+use mathlib.Core.Path.{_≡_, refl, _∙_}
 use native.Mathlib.Omega.{arith}
-use mir.Facts.{toZ-ofZ}
-use Rattle.num64.proofs.Laws.{in-range}
-use Rattle.evaluation.proofs.Ready.{ready-binary, ready-compare, ready-index, ready-lookup, ready-unary, rests}
+use lib.ListN.{length}
+use Rattle.semantics.specs.Evaluation.{Env, State}
+use Rattle.amounts.specs.Lists.{envOf}
+use Rattle.witness.specs.Elements.{stateOf}
+use Rattle.evaluation.proofs.Moves.{oracle-asks, oracle-moves, oracle-width, rests}
 use Rattle.evaluation.proofs.run.step.Statement.{statement}
 use Rattle.evaluation.proofs.run.step.Tie as tie
+
+abbrev env : tie.Start → Env
+env s = let a = s .args in envOf (a .spent .now) (a .spent-marks .now) (a .outputs .now) (a .output-marks .now) (a .issued .now) (a .issued-marks .now) (a .reissued .now) (a .reissued-marks .now) (a .current)
+
+-- the state before the command
+abbrev state : tie.Start → State
+state s = let a = s .args in stateOf (a .witness .now) (a .ends .now) (a .out .now) (a .left .now) (a .checks .now)
+
+step-oracle-requires : tie.Need-step-oracle-requires
+step-oracle-requires c κs =
+    let s = c .before .before .before .before .before .before .before .before .before .before .before .before .before .before .before .before .before .before .before .before .before .before .before .before .before in
+    let a = s .args in
+    let vals = c .before .before .before .before .before .before .before .before .before .step .last .1 .1 .1 .1 .0 in
+    let same : length vals ≡ length (a .vals .now) = c .before .before .before .before .before .before .before .before .vals .given in
+    let fit : a .values + a .indexes < length (a .vals .now) = s .pre .0 .values-fit in
+    let room : a .values < length vals = omega arith in
+    let o = rw (c .before .before .before .before .enum-told .given .1) at (c .before .before .before .before .before .before .before .before .before .step .ensures .0) in
+    (oracle-asks (a .command) (a .code .now) (a .at) (a .witness .now) (a .ends .now) (a .out .now) (a .left .now) (a .checks .now) o (s .pre .1), room)
+
+returns : tie.Need-returns
+returns c =
+    let s = c .before .before .before .before .before .before .before .before .before .before .before .before .before .before .before .before .before .before .before .before .before .before in
+    let a = s .args in
+    (rests (a .command) (a .left .now) (a .checks .now) (a .out .now), rw (c .before .turn .given .1) at (c .before .before .before .before .before .before .step .ensures .1 (env s) (state s) refl))
+
+returns-2 : tie.Need-returns-2
+returns-2 c =
+    let s = c .before .before .before .before .before .before .before .before .before .before .before .before .before .before .before .before .before .before .before .before .before .before .before .before .before in
+    let a = s .args in (
+      rests (a .command) (a .left .now) (a .checks .now) (a .out .now),
+      c .before .step-lookup .ensures (a .current) _ _ ∙ (rw (c .before .before .before .before .list .given .1) at (c .before .before .before .before .before .before .before .before .before .step .ensures .1 (env s) (state s) refl)),
+    )
+
+returns-3 : tie.Need-returns-3
+returns-3 c =
+    let s = c .before .before .before .before .before .before .before .before .before .before .before .before .before .before .before .before .before .before .before .before .before .before .before .before .before .before .before .before .before in
+    let a = s .args in
+    let known = c .before .before .before .before .before .before .before .before .enum-told .given .1 in
+    let o = rw known at (c .before .before .before .before .before .before .before .before .before .before .before .before .before .step .ensures .0) in
+    let width = oracle-width (a .command) o in (
+      oracle-moves (a .command) _ _ _ _ _ _ o (c .before .before .before .step-oracle .ensures .0),
+      rw width (c .before .before .before .step-oracle .ensures .1 _ ∙ (rw (known, width) at (c .before .before .before .before .before .before .before .before .before .before .before .before .before .step .ensures .1 (env s) (state s) refl))),
+    )
 
 pub step-spec : {M : Type 1} → statement M
 step-spec =
     tie.close
     (tie.spec
+    (λ c κs. let p = c .before .before .before .before .before .before .before .before .before .before .before .before .before .before .before .pre in (p .0, p .1 .operands))
     (λ c. search needs)
     (λ c. search needs)
-    (λ c κs. let u = rw (c .enum-told2 .given .1) at (c .before .before .before .before .before .before .before .before .before .before .before .before .before .before .before .pre .1 .1) in u .operands)
-    (λ c κs. omega (arith, c .before .before .before .before .before .before .before .before .before .before .before .before .before .before .before .before .before .pre .1 .0 .indexes-fit))
+    (λ c κs. omega (arith, c .before .before .before .before .before .before .before .before .before .before .before .before .before .before .before .before .before .before .before .before .before .before .before .pre .0 .values-fit))
     (λ c. search needs)
-    (λ c κs. omega (arith, c .before .before .before .before .before .before .before .before .before .before .before .before .before .before .before .before .pre .1 .0 .indexes-fit))
-    (λ c. search needs)
-    (λ c κs. let a = c .before .before .before .before .before .before .before .before .before .before .before .before .before .before .before .before .before .args in ready-index (a .values) (a .indexes) (a .vals .now) (a .idxs .now) _ (rw (c .before .before .command .given .1) at (c .before .before .before .before .before .before .before .before .before .before .before .before .before .before .before .before .before .pre .1 .0)))
-    (λ c. search needs)
-    (λ c κs. let u = rw (c .enum-told4 .given .1) at (c .before .before .before .before .before .before .before .before .before .before .before .before .before .before .before .pre .1 .1) in u .operands)
-    (λ c κs. search needs)
-    (λ c κs. omega (arith, c .before .before .before .before .before .before .before .before .before .before .before .before .before .before .before .before .before .before .pre .1 .0 .values-fit))
-    (λ c. search needs)
-    (λ c κs. (c .before .before .before .before .before .before .before .before .before .before .before .before .before .before .before .before .pre .0, omega (arith, c .before .before .before .before .before .before .before .before .before .before .before .before .before .before .before .before .pre .1 .0 .values-fit)))
-    (λ c. search needs)
-    (λ c κs. let q = (let a = c .before .before .before .before .before .before .before .before .before .before .before .before .before .before .before .before .before .args in ready-lookup (a .values) (a .indexes) (a .vals .now) (a .idxs .now) _ (rw (c .before .before .command2 .given .1) at (c .before .before .before .before .before .before .before .before .before .before .before .before .before .before .before .before .before .pre .1 .0))) in (q .0, q .1))
-    (λ c. let q = (let a = c .before .before .before .before .before .before .before .before .before .before .before .before .before .before .before .before .before .before .before .args in ready-lookup (a .values) (a .indexes) (a .vals .now) (a .idxs .now) _ (rw (c .before .before .before .before .command2 .given .1) at (c .before .before .before .before .before .before .before .before .before .before .before .before .before .before .before .before .before .before .before .pre .1 .0))) in omega (arith, q .0))
-    (λ c κs. let q = (let a = c .before .before .before .before .before .before .before .before .before .before .before .before .before .before .before .before .before .before .before .args in ready-lookup (a .values) (a .indexes) (a .vals .now) (a .idxs .now) _ (rw (c .before .before .before .before .command2 .given .1) at (c .before .before .before .before .before .before .before .before .before .before .before .before .before .before .before .before .before .before .before .pre .1 .0))) in (c .before .before .before .before .before .before .before .before .before .before .before .before .before .before .before .before .before .before .before .pre .0, q .2))
-    (λ c. search needs)
-    (λ c κs. let a = c .before .before .before .before .before .before .before .before .before .before .before .before .before .before .before .before .before .args in ready-binary (a .values) (a .indexes) (a .vals .now) (a .idxs .now) _ (rw (c .before .before .command3 .given .1) at (c .before .before .before .before .before .before .before .before .before .before .before .before .before .before .before .before .before .pre .1 .0)))
-    (λ c. search needs)
-    (λ c κs. let a = c .before .before .before .before .before .before .before .before .before .before .before .before .before .before .before .before .before .args in ready-unary (a .values) (a .indexes) (a .vals .now) (a .idxs .now) _ (rw (c .before .before .command4 .given .1) at (c .before .before .before .before .before .before .before .before .before .before .before .before .before .before .before .before .before .pre .1 .0)))
-    (λ c. search needs)
-    (λ c κs. let u = rw (c .before .before .before .before .enum-told6 .given .1) at (c .before .before .before .before .before .before .before .before .before .before .before .before .before .before .before .before .before .before .before .pre .1 .1) in (record { operands = u .operands; room = omega (arith, u .room); few = u .few; sound = u .sound }, omega (arith, c .before .before .before .before .before .before .before .before .before .before .before .before .before .before .before .before .before .before .before .pre .1 .0 .values-fit)))
-    (λ c. search needs)
-    (λ c κs. let u = rw (c .before .before .before .before .enum-told7 .given .1) at (c .before .before .before .before .before .before .before .before .before .before .before .before .before .before .before .before .before .before .before .pre .1 .1) in (record { operands = u .operands; room = omega (arith, u .room); few = u .few; sound = u .sound }, omega (arith, c .before .before .before .before .before .before .before .before .before .before .before .before .before .before .before .before .before .before .before .pre .1 .0 .values-fit)))
-    (λ c. search needs)
-    (λ c κs. let a = c .before .before .before .before .before .before .before .before .before .before .before .before .before .before .before .before .before .args in ready-compare (a .values) (a .indexes) (a .vals .now) (a .idxs .now) _ (rw (c .before .before .command5 .given .1) at (c .before .before .before .before .before .before .before .before .before .before .before .before .before .before .before .before .before .pre .1 .0)))
-    (λ c. let a = c .before .before .before .before .before .before .before .before .before .before .before .before .before .before .before .args in (rests (a .command) (a .left .now) (a .checks .now) (a .out .now), rw (c .enum-told .given .1)))
-    (λ c. search needs)
-    (λ c. let a = c .before .before .before .before .before .before .before .before .before .before .before .before .before .before .before .before .before .before .before .before .args in (rests (a .command) (a .left .now) (a .checks .now) (a .out .now), rw (c .before .before .before .before .before .enum-told2 .given .1, ← c .before .before .before .before .read-le64 .ensures .value, ← in-range _ (c .before .before .before .before .read-le64 .ok)) (c .before .before .push-index .ensures (a .vals .now) _)))
-    (λ c. search needs)
-    (λ c. let a = c .before .before .before .before .before .before .before .before .before .before .before .before .before .before .before .before .before .before .before .args in (rests (a .command) (a .left .now) (a .checks .now) (a .out .now), rw (c .before .before .before .before .enum-told3 .given .1, ← in-range _ (c .before .before .before .before .before .before .before .before .before .before .before .before .before .before .before .before .before .before .before .fits .current .fits)) (c .before .before .push-index2 .ensures (a .vals .now) _)))
-    (λ c. search needs)
-    (λ c. let a = c .before .before .before .before .before .before .before .before .before .before .before .before .before .before .before .before .before .before .before .before .args in (rests (a .command) (a .left .now) (a .checks .now) (a .out .now), rw (c .before .before .before .before .before .command .given .1) (c .before .before .step-index .ensures (a .vals .now) _)))
-    (λ c. search needs)
-    (λ c. let a = c .before .before .before .before .before .before .before .before .before .before .before .before .before .before .before .before .before .before .before .before .args in (rests (a .command) (a .left .now) (a .checks .now) (a .out .now), rw (c .before .before .before .before .before .enum-told4 .given .1, ← c .before .before .before .before .read-le642 .ensures .value, ← c .before .before .before .signed .ensures) (rw (toZ-ofZ (sfits-of (c .before .before .before .signed .ok))) at (c .before .push-value .ensures (a .idxs .now) (stateOf (a .witness .now) (a .ends .now) (a .out .now) (a .left .now) (a .checks .now))))))
-    (λ c. search needs)
-    (λ c. let a = c .before .before .before .before .before .before .before .before .before .before .before .before .before .before .before .before .before .before .args in (rests (a .command) (a .left .now) (a .checks .now) (a .out .now), rw (c .before .before .before .enum-told5 .given .1, ← in-range _ (c .before .before .before .before .before .before .before .before .before .before .before .before .before .before .before .before .before .before .fits .current .fits)) (c .before .step-lookup .ensures (a .current) (a .idxs .now) _)))
+    step-oracle-requires
     (λ c. search needs)
     (λ c. search needs)
-    (λ c. let a = c .before .before .before .before .before .before .before .before .before .before .before .before .before .before .before .before .before .before .before .before .before .args in (rests (a .command) (a .left .now) (a .checks .now) (a .out .now), rw (c .before .before .before .before .before .before .command2 .given .1, ← c .before .before .before .last-index .ensures) (c .before .step-lookup2 .ensures (a .current) (a .idxs .now) _)))
-    (λ c. search needs)
-    (λ c. let a = c .before .before .before .before .before .before .before .before .before .before .before .before .before .before .before .before .before .before .before .args in (rests (a .command) (a .left .now) (a .checks .now) (a .out .now), rw (c .before .before .before .before .command3 .given .1) (c .before .step-binary .ensures (a .idxs .now) _)))
-    (λ c. search needs)
-    (λ c. let a = c .before .before .before .before .before .before .before .before .before .before .before .before .before .before .before .before .before .before .before .args in (rests (a .command) (a .left .now) (a .checks .now) (a .out .now), rw (c .before .before .before .before .command4 .given .1) (c .before .step-unary .ensures (a .idxs .now) _)))
+    returns
     (λ c. search needs)
     (λ c. search needs)
-    (λ c. let a = c .before .before .before .before .before .before .before .before .before .before .before .before .before .before .before .before .before .before .before .before .before .before .before .args in let m = c .before .before .before .step-oracle .ensures .0 in rw (c .before .before .before .before .before .before .before .before .enum-told6 .given .1) (record { fewer = m .fewer; more = m .more; counted-in = m .counted-in; kept = m .kept }, c .before .before .before .step-oracle .ensures .1 (a .idxs .now)))
+    returns-2
     (λ c. search needs)
     (λ c. search needs)
-    (λ c. let a = c .before .before .before .before .before .before .before .before .before .before .before .before .before .before .before .before .before .before .before .before .before .before .before .args in let m = c .before .before .before .step-oracle2 .ensures .0 in rw (c .before .before .before .before .before .before .before .before .enum-told7 .given .1) (record { fewer = m .fewer; more = m .more; counted-in = m .counted-in; kept = m .kept }, c .before .before .before .step-oracle2 .ensures .1 (a .idxs .now)))
     (λ c. search needs)
-    (λ c. let a = c .before .before .before .before .before .before .before .before .before .before .before .before .before .before .before .before .before .before .args in (rests (a .command) (a .left .now) (a .checks .now) (a .out .now), rw (c .before .before .before .command5 .given .1) (c .step-compare .ensures (a .idxs .now) _))))
+    returns-3)

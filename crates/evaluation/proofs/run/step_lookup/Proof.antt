@@ -7,7 +7,7 @@ pub step-lookup-spec : {M : Type 1} → statement M
 step-lookup-spec =
     tie.close
     (tie.spec
-    (λ c κs. c .before .before .before .before .before .before .before .before .pre .0)
-    (λ c κs. c .before .before .before .before .before .before .before .before .before .before .pre .1)
+    (λ c κs. search needs)
+    (λ c κs. search needs)
     (λ c. search needs)
     (λ c. λ current idxs st. rw (← c .before .before .before .looked-up .ensures) (c .before .push-value .ensures idxs st)))

@@ -1,0 +1,18 @@
+-- An index is written on top (`index-pushed`); a step that is none ends the evaluation.
+use borrow.Author.Needs.{needs}
+use Rattle.stacks.proofs.Stack.{index-pushed}
+use Rattle.stacks.proofs.push_index.Statement.{statement}
+use Rattle.stacks.proofs.push_index.Tie as tie
+
+pub push-index-spec : {M : Type 1} → statement M
+push-index-spec =
+    tie.close
+    (tie.spec
+    (λ c. search needs)
+    (λ c. search needs)
+    (λ c. search needs)
+    (λ c. search needs)
+    (λ c. search needs)
+    (λ c. search needs)
+    (λ c. λ vals st. let a = c .before .before .before .args in rw (c .before .s .given .1, index-pushed (a .idxs .now) (a .indexes) _ (c .before .before .before .pre)))
+    (λ c. λ vals st. rw (c .enum-told .given .1)))

@@ -1,0 +1,146 @@
+// The operands that wait, in two arrays: what the commands do with them.
+use num64::Step;
+use semantics::AmountList;
+use semantics::BinOp;
+use semantics::CmpOp;
+use semantics::Command;
+use semantics::IdxOp;
+use semantics::Refusal;
+use semantics::UnOp;
+use semantics::Value;
+use semantics::Verdict;
+ghost use mathlib.Core.Path.{_≡_};
+ghost use mathlib.Core.List.{List, _∷_};
+ghost use Prim.Native.Nat.{ℕ, _+_, _-_, _≤_, _<_};
+ghost use lib.IntN.{ℤ, pos};
+ghost use lib.ListN.{length, take, drop};
+ghost use Rattle.num64.specs.Steps.{stepped};
+ghost use Rattle.semantics.specs.Operations.{binRow, cmpRow, idxRow, unRow};
+ghost use Rattle.semantics.specs.Code.{commandRow};
+ghost use Rattle.semantics.specs.Evaluation.{Env, State, ok, outcome};
+ghost use Rattle.semantics.specs.Run.{Run, act, operand, pushIndex, pushValue};
+ghost use Rattle.stacks.specs.Stacks.{OracleOnly, Ready, effectOf, indexesIn, runOf, valuesIn};
+
+// What a command leads to: so many values and indexes that wait, or the end of the evaluation.
+pub enum Turn {
+    On(usize, usize),
+    Ended(Verdict),
+}
+
+// What a command does: all of it with the operands that wait, or a value from elsewhere is still to be pushed.
+// That is the amount of a list at an index, with so many indexes left, or the price of an oracle terminal.
+pub enum Effect {
+    Turned(Turn),
+    Amount(AmountList, u64, usize),
+    Oracle,
+}
+
+// A value, on top of so many.
+pub fn push_value(vals: &mut [i64], v: Value, values: usize, indexes: usize) -> Turn
+    requires { ⌜ values < length (now vals) ⌝ }
+    ensures { λ r. ⌜ ((idxs : List ℕ) (st : State) → runOf (now (vals .exit)) idxs st r ≡ pushValue (valuesIn (now (vals .entry)) values) (indexesIn idxs indexes) (outcome v st)) ⌝ }
+{
+    match v {
+        Value::Number(z) => {
+            vals[values] = z;
+            Turn::On(values + 1, indexes)
+        }
+        Value::Refused(r) => Turn::Ended(Verdict::Refused(r)),
+    }
+}
+
+// An index, on top of so many.
+fn push_index(idxs: &mut [u64], s: Step, values: usize, indexes: usize) -> Turn
+    requires { ⌜ indexes < length (now idxs) ⌝ }
+    ensures { λ r. ⌜ ((vals : List ℤ) (st : State) → runOf vals (now (idxs .exit)) st r ≡ pushIndex (valuesIn vals values) (indexesIn (now (idxs .entry)) indexes) st (stepped s)) ⌝ }
+{
+    match s {
+        Step::Value(n) => {
+            idxs[indexes] = n;
+            Turn::On(values, indexes + 1)
+        }
+        Step::Overflow => Turn::Ended(Verdict::Refused(Refusal::IndexStep)),
+    }
+}
+
+// The last index.
+fn last_index(idxs: &[u64], indexes: usize) -> u64
+    requires { ⌜ (1 ≤ indexes) × (indexes ≤ length (now idxs)) ⌝ }
+    ensures { λ r. ⌜ pos r ∷ indexesIn (now (idxs .entry)) (indexes - 1) ≡ indexesIn (now (idxs .entry)) indexes ⌝ }
+{
+    idxs[indexes - 1]
+}
+
+// The two last indexes become one.
+fn step_index(op: IdxOp, idxs: &mut [u64], values: usize, indexes: usize) -> Turn
+    requires { ⌜ (2 ≤ indexes) × (indexes ≤ length (now idxs)) ⌝ }
+    ensures { λ r. ⌜ ((vals : List ℤ) (st : State) → let is = indexesIn (now (idxs .entry)) indexes in runOf vals (now (idxs .exit)) st r ≡ pushIndex (valuesIn vals values) (drop 2 is) st (idxRow op .result (operand is 1) (operand is 0))) ⌝ }
+{
+    let s = operations::index(op, idxs[indexes - 2], idxs[indexes - 1]);
+    push_index(idxs, s, values, indexes - 2)
+}
+
+// The two last values become one.
+fn step_binary(op: BinOp, vals: &mut [i64], values: usize, indexes: usize) -> Turn
+    requires { ⌜ (2 ≤ values) × (values ≤ length (now vals)) ⌝ }
+    ensures { λ r. ⌜ ((idxs : List ℕ) (st : State) → let vs = valuesIn (now (vals .entry)) values in runOf (now (vals .exit)) idxs st r ≡ pushValue (drop 2 vs) (indexesIn idxs indexes) (outcome (binRow op .result (operand vs 1) (operand vs 0)) st)) ⌝ }
+{
+    let v = operations::binary(op, vals[values - 2], vals[values - 1]);
+    push_value(vals, v, values - 2, indexes)
+}
+
+// The last value becomes another.
+fn step_unary(op: UnOp, vals: &mut [i64], values: usize, indexes: usize) -> Turn
+    requires { ⌜ (1 ≤ values) × (values ≤ length (now vals)) ⌝ }
+    ensures { λ r. ⌜ ((idxs : List ℕ) (st : State) → let vs = valuesIn (now (vals .entry)) values in runOf (now (vals .exit)) idxs st r ≡ pushValue (drop 1 vs) (indexesIn idxs indexes) (outcome (unRow op .result (operand vs 0)) st)) ⌝ }
+{
+    let v = operations::unary(op, vals[values - 1]);
+    push_value(vals, v, values - 1, indexes)
+}
+
+// The two last values are compared: the verdict.
+fn step_compare(op: CmpOp, vals: &[i64], values: usize) -> Turn
+    requires { ⌜ (2 ≤ values) × (values ≤ length (now vals)) ⌝ }
+    ensures { λ r. ⌜ ((idxs : List ℕ) (st : State) → let vs = valuesIn (now (vals .entry)) values in runOf (now (vals .entry)) idxs st r ≡ Run.stopped (ok (cmpRow op .result (operand vs 1) (operand vs 0)) st)) ⌝ }
+{
+    Turn::Ended(Verdict::Is(operations::compare(op, vals[values - 2], vals[values - 1])))
+}
+
+// One command, whose operand bytes stand at `at`. Check refuses code with an unknown one, so that there is none here.
+pub fn step(
+    command: Command,
+    code: &[u8],
+    at: usize,
+    current: u64,
+    vals: &mut [i64],
+    idxs: &mut [u64],
+    values: usize,
+    indexes: usize,
+) -> Effect
+    requires { ⌜ Ready command values indexes (now vals) (now idxs) × (at + commandRow command .width ≤ length (now code)) ⌝ }
+    ensures { λ r. ⌜ OracleOnly command r ⌝ }
+    ensures { λ r. ⌜ ((env : Env) (st : State) → env .current ≡ current → let n = take (commandRow command .width) (drop at (now (code .entry))) in effectOf env n (now (vals .exit)) values (now (idxs .exit)) indexes st r ≡ act env command n (valuesIn (now (vals .entry)) values) (indexesIn (now (idxs .entry)) indexes) st) ⌝ }
+{
+    match command {
+        Command::Unknown => Effect::Turned(Turn::On(values, indexes)),
+        Command::IdxConst => {
+            let n = slices::read_le64(code, at);
+            Effect::Turned(push_index(idxs, Step::Value(n), values, indexes))
+        }
+        Command::CurrIdx => {
+            Effect::Turned(push_index(idxs, Step::Value(current), values, indexes))
+        }
+        Command::Index(op) => Effect::Turned(step_index(op, idxs, values, indexes)),
+        Command::Const => {
+            let z = word64::signed(slices::read_le64(code, at));
+            Effect::Turned(push_value(vals, Value::Number(z), values, indexes))
+        }
+        Command::CurrInputIdx => Effect::Amount(AmountList::Input, current, indexes),
+        Command::Lookup(list) => { Effect::Amount(list, last_index(idxs, indexes), indexes - 1) }
+        Command::Binary(op) => Effect::Turned(step_binary(op, vals, values, indexes)),
+        Command::Unary(op) => Effect::Turned(step_unary(op, vals, values, indexes)),
+        Command::PriceOracle1 => Effect::Oracle,
+        Command::PriceOracle1W => Effect::Oracle,
+        Command::Compare(op) => Effect::Turned(step_compare(op, vals, values)),
+    }
+}

@@ -1,0 +1,159 @@
+-- What an oracle terminal makes of the witness and of the buffer for the checks.
+use Prim.Native.Nat.{ℕ, _+_, _*_, _^_, _≤_, _<_}
+use mathlib.Core.Path.{_≡_, refl, sym, ap, _∙_}
+use mathlib.Core.Bool.{Bool, true, false, cond}
+use mathlib.Core.List.{List, _++_, append-assoc}
+use native.Mathlib.Omega.{arith}
+use borrow.Author.Tests.{le-ltb, lt-ltb}
+use lib.Dec.{ltb}
+use lib.IntN.{ℤ, pos}
+use lib.ListN.{length, take, drop, length-append, length-take, length-drop, take-append-drop}
+use lib.Seq.{drop-at, drop-drop, length-paste-head, length-take-le, paste, take-at}
+use Rattle.slices.specs.Bytes.{Read64, bytesValue}
+use Rattle.slices.proofs.Bytes.{drop-take}
+use Rattle.semantics.specs.declared.Refusal.{Refusal}
+use Rattle.semantics.specs.declared.Value.{Value}
+use Rattle.semantics.specs.Evaluate.{endsSound}
+use Rattle.semantics.specs.Evaluation.{Outcome, State, checkBytes, err, ok, onward, outcome, pop}
+use Rattle.witness.specs.declared.Answered.{Answered}
+use Rattle.witness.specs.declared.Place.{Place}
+use Rattle.witness.specs.Elements.{popped, taken}
+use Rattle.witness.specs.Oracle.{Asks, Gives, afterSignature, checkOf, keyAt, priced, timeAt}
+use Rattle.witness.proofs.Elements.{pop-taken, taken-fewer}
+
+-- a pop, and then what is left to do with the element, if there is one
+module _ (w ends old : List ℕ) (left checks width : ℕ) (absent wrong : Refusal) (k : List ℕ → State → Outcome ℤ)
+    (sound : endsSound 0 (length w) ends ≡ true) (few : left ≤ length ends) where
+  abbrev top : Place
+  top = taken width absent wrong (popped ends left) .place
+
+  abbrev fewer : ℕ
+  fewer = taken width absent wrong (popped ends left) .left
+
+  pub gives-found : (new : List ℕ) (p : ℕ) (r : Answered) → top ≡ Place.At p → Gives (k (take width (drop p w))) w ends old new fewer checks r
+      → Gives (λ st. onward (pop width absent wrong st) k) w ends old new left checks r
+  gives-found new p r e g =
+      record {
+        gives = rw (pop-taken w ends old sound left width checks absent wrong few, e) (g .gives);
+        fewer = omega (arith, g .fewer, taken-fewer ends left width absent wrong);
+        more = g .more;
+        one = g .one;
+        kept = g .kept;
+      }
+
+  pub gives-refused : (x : Refusal) → top ≡ Place.Refused x
+      → Gives (λ st. onward (pop width absent wrong st) k) w ends old old left checks (record { value = Value.Refused x; left = fewer; checks = checks })
+  gives-refused x e =
+      record {
+        gives = rw (pop-taken w ends old sound left width checks absent wrong few, e);
+        fewer = taken-fewer ends left width absent wrong;
+        more = omega arith;
+        one = omega arith;
+        kept = refl;
+      }
+
+-- what an oracle terminal may go by, it may go by after a pop
+pub asks-fewer : (code : List ℕ) (at : ℕ) (w ends out : List ℕ) (left checks width : ℕ) (absent wrong : Refusal) → Asks code at w ends out left checks
+    → Asks code at w ends out (taken width absent wrong (popped ends left) .left) checks
+asks-fewer code at w ends out left checks width absent wrong a =
+    record {
+      operands = a .operands;
+      room = a .room;
+      few = omega (arith, a .few, taken-fewer ends left width absent wrong);
+      sound = a .sound;
+    }
+
+-- the terminal's time
+time-at : (code : List ℕ) (at : ℕ) → drop 32 (take 40 (drop at code)) ≡ take 8 (drop (at + 32) code)
+time-at code at = drop-take 32 8 (drop at code) ∙ ap (take 8) (drop-drop 32 at code)
+
+pub time-is : (code : List ℕ) (at t : ℕ) → Read64 code (at + 32) t → timeAt code at ≡ t
+time-is code at t r = ap bytesValue (time-at code at) ∙ sym (r .value)
+
+-- the check is key, the terminal's time, price, signature
+check-is : (code : List ℕ) (at t : ℕ) (w : List ℕ) (p q : ℕ) (witnessTime : List ℕ) → Read64 code (at + 32) t
+    → checkBytes (keyAt code at) t witnessTime (take 8 (drop p w)) (take 64 (drop q w)) ≡ checkOf code at w p q
+unfolding checkOf
+check-is code at t w p q witnessTime r =
+    rw (r .bytes, ← time-at code at, take-append-drop 32 (take 40 (drop at code)))
+    (append-assoc (take 40 (drop at code)) (take 8 (drop p w)) (take 64 (drop q w)))
+
+-- three copies, one behind the other
+grown : (x d s : List ℕ) (b m : ℕ) → length x ≡ b → paste (x ++ drop b d) b s m ≡ x ++ take m s ++ drop (b + m) d
+grown x d s b m e =
+    let f : drop (b + m) (x ++ drop b d) ≡ drop (b + m) d = sym (drop-drop m b (x ++ drop b d)) ∙ ap (λ (l : List ℕ). drop m l) (drop-at x (drop b d) b e) ∙ drop-drop m b d in
+    rw (take-at x (drop b d) b e, f)
+
+pub three-copies : (d a b c : List ℕ) (o : ℕ) → o ≤ length d → 40 ≤ length a → 8 ≤ length b
+    → paste (paste (paste d o a 40) (o + 40) b 8) (o + 48) c 64 ≡ take o d ++ (take 40 a ++ (take 8 b ++ take 64 c)) ++ drop (o + 112) d
+three-copies d a b c o h k l =
+    let e : o + 40 + 8 ≡ o + 48 = omega arith in
+    let f : o + 48 + 64 ≡ o + 112 = omega arith in
+    let x : length (take o d ++ take 40 a) ≡ o + 40 = length-paste-head d o a 40 h k in
+    let y : length (take o d ++ take 40 a ++ take 8 b) ≡ o + 48 = length-append (take o d ++ take 40 a) (take 8 b) ∙ omega (arith, x, length-take-le 8 b l) in
+    rw (grown (take o d ++ take 40 a) d b (o + 40) 8 x, e, grown (take o d ++ take 40 a ++ take 8 b) d c (o + 48) 64 y, f) (simp append-assoc)
+
+priced-outcome : (n : ℕ) (st : State) (b : Bool)
+    → outcome (cond b (Value.Number (pos n)) (Value.Refused Refusal.PriceOverflow)) st ≡ cond b (ok (pos n) st) (err Refusal.PriceOverflow st)
+priced-outcome n st true = refl
+priced-outcome n st false = refl
+
+-- after the three pops: the time at t, the price at p and the signature at q
+module _ (code : List ℕ) (at : ℕ) (w ends old : List ℕ) (p t q left checks time : ℕ) (terminal : Read64 code (at + 32) time) where
+  abbrev rest : State → Outcome ℤ
+  rest = afterSignature (keyAt code at) (timeAt code at) (take 8 (drop p w)) (take 8 (drop t w)) (take 64 (drop q w))
+
+  pub judged-late : time < bytesValue (take 8 (drop t w))
+      → Gives rest w ends old old left checks (record { value = Value.Refused Refusal.TimestampInFuture; left = left; checks = checks })
+  judged-late h =
+      record {
+        gives = rw (time-is code at time terminal, lt-ltb time (bytesValue (take 8 (drop t w))) h);
+        fewer = omega arith;
+        more = omega arith;
+        one = omega arith;
+        kept = refl;
+      }
+
+  -- the check stands behind those before it
+  module _ (room : 112 * checks + 112 ≤ length old) (operands : at + 40 ≤ length code) (price : p + 8 ≤ length w) (signature : q + 64 ≤ length w)
+      (intime : bytesValue (take 8 (drop t w)) ≤ time) where
+    abbrev check : List ℕ
+    check = checkOf code at w p q
+
+    abbrev new : List ℕ
+    new = take (112 * checks) old ++ check ++ drop (112 * checks + 112) old
+
+    check-length : length check ≡ 112
+    unfolding checkOf
+    check-length = simp (length-append, length-take, length-drop) (omega arith)
+
+    front-length : length (take (112 * checks) old ++ check) ≡ 112 * (checks + 1)
+    front-length = length-append (take (112 * checks) old) check ∙ omega (arith, length-take-le (112 * checks) old (omega arith), check-length)
+
+    front : take (112 * (checks + 1)) new ≡ take (112 * checks) old ++ check
+    front = take-at (take (112 * checks) old ++ check) (drop (112 * checks + 112) old) (112 * (checks + 1)) front-length
+
+    behind : drop (112 * (checks + 1)) new ≡ drop (112 * (checks + 1)) old
+    behind =
+        let e : 112 * checks + 112 ≡ 112 * (checks + 1) = omega arith in
+        drop-at (take (112 * checks) old ++ check) (drop (112 * checks + 112) old) (112 * (checks + 1)) front-length ∙ ap (λ (k : ℕ). drop k old) e
+
+    pub judged-listed : (n : ℕ) → n ≡ bytesValue (take 8 (drop p w)) → (v : Value) → v ≡ priced n
+        → Gives rest w ends old new left checks (record { value = v; left = left; checks = checks + 1 })
+    judged-listed n e v is =
+        record {
+          gives =
+              rw (
+                time-is code at time terminal,
+                check-is code at time w p q (take 8 (drop t w)) terminal,
+                le-ltb time (bytesValue (take 8 (drop t w))) intime,
+                ← e,
+                is,
+                front,
+              )
+              (priced-outcome n _ (ltb n (2 ^ 63)));
+          fewer = omega arith;
+          more = omega arith;
+          one = omega arith;
+          kept = behind;
+        }

@@ -1,0 +1,59 @@
+-- What is left of `oracle` after each pop, and what a function that does it promises.
+use Prim.Native.Nat.{ℕ, _+_, _*_, _^_, _≤_}
+use mathlib.Core.Bool.{cond, true}
+use mathlib.Core.Path.{_≡_}
+use mathlib.Core.List.{List, _++_}
+use lib.IntN.{ℤ, pos}
+use lib.ListN.{length, take, drop}
+use lib.Dec.{ltb}
+use Rattle.slices.specs.Bytes.{bytesValue}
+use Rattle.semantics.specs.declared.Refusal.{Refusal}
+use Rattle.semantics.specs.declared.Value.{Value}
+use Rattle.semantics.specs.Evaluate.{endsSound}
+use Rattle.semantics.specs.Evaluation.{Outcome, State, checkBytes, err, inFuture, ok, onward, outcome, pop}
+use Rattle.witness.specs.declared.Answered.{Answered}
+use Rattle.witness.specs.Elements.{stateOf}
+
+abbrev pub afterSignature : List ℕ → ℕ → List ℕ → List ℕ → List ℕ → State → Outcome ℤ
+afterSignature key time price witnessTime signature st =
+    let check = checkBytes key time witnessTime price signature in
+    let listed : State = record { checks = st .checks + 1; written = st .written ++ check; left = st .left } in
+    cond (inFuture time (bytesValue witnessTime)) (err Refusal.TimestampInFuture st)
+    (cond (ltb (bytesValue price) (2 ^ 63)) (ok (pos (bytesValue price)) listed) (err Refusal.PriceOverflow listed))
+
+abbrev pub afterTime : List ℕ → ℕ → List ℕ → List ℕ → State → Outcome ℤ
+afterTime key time price witnessTime st =
+    onward (pop 64 Refusal.MissingOracleSignature Refusal.MalformedSig st) (afterSignature key time price witnessTime)
+
+abbrev pub afterPrice : List ℕ → ℕ → List ℕ → State → Outcome ℤ
+afterPrice key time price st = onward (pop 8 Refusal.MissingTimestamp Refusal.Timstamp8BytePush st) (afterTime key time price)
+
+-- what a price of the witness is worth
+abbrev pub priced : ℕ → Value
+priced n = cond (ltb n (2 ^ 63)) (Value.Number (pos n)) (Value.Refused Refusal.PriceOverflow)
+
+-- key and time of the terminal whose operands stand at `at`
+abbrev pub keyAt : List ℕ → ℕ → List ℕ
+keyAt code at = take 32 (take 40 (drop at code))
+
+abbrev pub timeAt : List ℕ → ℕ → ℕ
+timeAt code at = bytesValue (drop 32 (take 40 (drop at code)))
+
+-- the check: the terminal's operands, then price and signature, which stand at p and q in the witness
+unfoldable pub checkOf : List ℕ → ℕ → List ℕ → ℕ → ℕ → List ℕ
+checkOf code at witness p q = take 40 (drop at code) ++ (take 8 (drop p witness) ++ take 64 (drop q witness))
+
+-- what an oracle terminal may go by
+pub record Asks (code : List ℕ) (at : ℕ) (witness ends out : List ℕ) (left checks : ℕ) : Type 0 where
+  pub operands : at + 40 ≤ length code
+  pub room : 112 * checks + 112 ≤ length out
+  pub few : left ≤ length ends
+  pub sound : endsSound 0 (length witness) ends ≡ true
+
+-- what is left of it gives this outcome; no element comes back, at most one check is new, and the bytes after the checks are as they were
+pub record Gives (rest : State → Outcome ℤ) (witness ends old new : List ℕ) (left checks : ℕ) (r : Answered) : Type 0 where
+  pub gives : outcome (r .value) (stateOf witness ends new (r .left) (r .checks)) ≡ rest (stateOf witness ends old left checks)
+  pub fewer : r .left ≤ left
+  pub more : checks ≤ r .checks
+  pub one : r .checks ≤ checks + 1
+  pub kept : drop (112 * r .checks) new ≡ drop (112 * r .checks) old
