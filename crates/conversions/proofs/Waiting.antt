@@ -40,10 +40,12 @@ pushed a n v h = rw add-one (ap₂ _∷_ (getD-set-same a n v 0 h) (stack-below 
 
 -- an operation on two indexes, and one that takes an index
 module _ (waiting : List ℕ) (indexes : ℕ) (marks : List Bool) (count : ℕ) where
-  pub ready-index : (o : IdxOp) → Ready (Command.Index o) count indexes waiting marks → (2 ≤ indexes) × (getD waiting (indexes - 2) 0 < count)
+  pub ready-index : (o : IdxOp) → Ready (Command.Index o) count indexes waiting marks
+      → (2 ≤ indexes) × (getD waiting (indexes - 1) 0 < count) × (getD waiting (indexes - 2) 0 < count)
   ready-index o r =
       let h = leb-true 2 indexes (r .met) in
-      (h, subst (λ (s : List ℕ). All (λ k. k < count) s) (stack-two waiting indexes h) (r .earlier) .1 .0)
+      let e = subst (λ (s : List ℕ). All (λ k. k < count) s) (stack-two waiting indexes h) (r .earlier) in
+      (h, e .0, e .1 .0)
 
   pub ready-lookup : (l : AmountList) → Ready (Command.Lookup l) count indexes waiting marks → 1 ≤ indexes
   ready-lookup l r = omega (arith, eqb-true indexes 1 (r .met))
@@ -53,7 +55,7 @@ module _ (waiting : List ℕ) (indexes : ℕ) (marks : List Bool) (count : ℕ) 
       → record { waiting = s; marks = take count (set marks left (converts o)) } ≡ settled (markingIn waiting indexes marks count) (Command.Index o)
   operated o r left e s d =
       let q = ready-index o r in
-      rw (d, e, take-set-lt count marks (getD waiting (indexes - 2) 0) (converts o) (q .1), stack-two waiting indexes (q .0), length-take-le count marks (omega (arith, r .count-fits)))
+      rw (d, e, take-set-lt count marks (getD waiting (indexes - 2) 0) (converts o) (q .2), stack-two waiting indexes (q .0), length-take-le count marks (omega (arith, r .count-fits)))
 
   pub ended : (c : Command) → Ready c count indexes waiting marks → (s : List ℕ) → s ≡ count ∷ stackIn waiting indexes
       → _≡_ {A = Marking} (record { waiting = s; marks = take count marks }) (record { waiting = length (take count marks) ∷ stackIn waiting indexes; marks = take count marks })

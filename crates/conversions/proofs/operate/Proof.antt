@@ -1,4 +1,4 @@
--- The left operand's last command comes before this one (`ready-index`), and the operation ends an operand (`operated`).
+-- The last commands of both operands come before this one (`ready-index`), and the operation ends an operand (`operated`).
 use borrow.Author.Needs.{needs}
 use Prim.Native.Nat.{_-_, _≤_, _<_}
 use mathlib.Core.Path.{refl}
@@ -8,7 +8,10 @@ use Rattle.conversions.proofs.Waiting.{operated, ready-index}
 use Rattle.conversions.proofs.operate.Statement.{statement}
 use Rattle.conversions.proofs.operate.Tie as tie
 
-ready : (s : tie.Start) → (2 ≤ s .args .indexes) × (getD (s .args .waiting .now) (s .args .indexes - 2) 0 < s .args .count)
+ready : (s : tie.Start)
+    → (2 ≤ s .args .indexes)
+    × (getD (s .args .waiting .now) (s .args .indexes - 1) 0 < s .args .count)
+    × (getD (s .args .waiting .now) (s .args .indexes - 2) 0 < s .args .count)
 ready s = ready-index (s .args .waiting .now) (s .args .indexes) (s .args .marks .now) (s .args .count) (s .args .op) (s .pre)
 
 pub operate-spec : {M : Type 1} → statement M
@@ -18,9 +21,9 @@ operate-spec =
     (λ c. omega (arith, ready (c .before .before) .0))
     (λ c. search needs)
     (λ c. omega (arith, ready (c .before .before .before) .0, c .before .before .before .pre .indexes-fit))
-    (λ c. omega (arith, ready (c .before .before .before) .1, c .before .before .before .pre .few))
+    (λ c. omega (arith, ready (c .before .before .before), c .before .before .before .pre .few))
     (λ c κs. search needs)
-    (λ c. omega (arith, ready (c .before .before .before .before) .1, c .before .before .before .before .pre .count-fits))
+    (λ c. omega (arith, ready (c .before .before .before .before), c .before .before .before .before .pre .count-fits))
     (λ c. omega (arith, ready (c .before .before .before .before) .0))
     (λ c κs. (
       c .before .before .before .before .before .pre .few,
