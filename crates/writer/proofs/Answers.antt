@@ -7,34 +7,30 @@ use native.Mathlib.Omega.{arith}
 use borrow.Author.Tests.{leb-true}
 use lib.Dec.{leb}
 use lib.ListN.{length, drop}
-use lib.Seq.{drop-at}
 use Rattle.slices.specs.Bytes.{Bytes}
 use Rattle.semantics.specs.declared.Checked.{Checked}
 use Rattle.semantics.specs.declared.Refusal.{Refusal}
 use Rattle.semantics.specs.declared.Written.{Written}
 use Rattle.semantics.specs.Check.{Condition, checked, condition, firstOf, unless}
-use Rattle.semantics.specs.Evaluate.{over}
+use Rattle.semantics.specs.Code.{maxTokens}
 use Rattle.semantics.specs.Oracle.{oracles}
 use Rattle.semantics.specs.Records.{Records}
 use Rattle.semantics.specs.Token.{form, narrow}
 use Rattle.semantics.specs.Trees.{Arith}
-use Rattle.semantics.specs.Write.{Writes, roomFor, writesUnless, writing, written}
+use Rattle.semantics.specs.Write.{roomFor, writesUnless, writing}
 use Rattle.semantics.proofs.Forms.{form-keys, form-sound}
 use Rattle.semantics.proofs.Passing.{Passing, answered-passed, answered-refused, passing}
 use Rattle.semantics.proofs.Placing.{in-order, length-places}
 use Rattle.semantics.proofs.Tests.{and-true}
 use Rattle.condition.proofs.Onward.{accepted, few-oracles}
-use Rattle.writer.specs.Marks.{Fits, marksOf, narrowCode}
-use Rattle.writer.specs.Storing.{Coded, Room, Stored, emitted, keysOf, placesFrom}
+use Rattle.writer.specs.Postcondition.{Postcondition}
+use Rattle.conversions.specs.Marks.{Fits, marksOf, narrowCode}
+use Rattle.token_form.specs.Storing.{Coded, Room, Stored, emitted, keysOf, placesFrom}
 use Rattle.writer.proofs.OfTree.{emitted-form, narrow-emitted}
-use Rattle.writer.proofs.Over.{length-over}
-
--- what the call owes
-abbrev pub Owed : List ℕ → Records → Written → Records → Type 0
-Owed b old r new = (r ≡ written (writing b old)) × Writes (writing b old) old new
+use Rattle.token_form.proofs.Over.{length-over, rest-of}
 
 -- 1 to 5
-pub refused-first : (b : List ℕ) (old : Records) (r : Refusal) → checked b ≡ Checked.Refused r → Owed b old (Written.Refused r) old
+pub refused-first : (b : List ℕ) (old : Records) (r : Refusal) → checked b ≡ Checked.Refused r → Postcondition b old (Written.Refused r) old
 unfolding checked writing
 refused-first b old r e = rw (answered-refused (condition b) r e) (refl, refl)
 
@@ -52,10 +48,6 @@ fits b t m waiting marks e h k =
 
 pub coded : (b : List ℕ) (t m marks : ℕ) → checked b ≡ Checked.Passed t m → t ≤ marks → Coded b marks
 coded b t m marks e h = let a = accepted b t m e in record { last = a .last; walk = a .walk; marks-fit = omega (arith, a .tokens-are, h) }
-
--- what stands after what is written over
-rest-of : (ws xs : List ℕ) (n : ℕ) → length ws ≡ n → drop n (over ws xs) ≡ drop n xs
-rest-of ws xs n e = drop-at ws (drop (length ws) xs) n e ∙ ap (λ (m : ℕ). drop m xs) e
 
 -- a condition that passes is a tree
 module _ (b : List ℕ) (bytes : Bytes b) (old : Records) (t m : ℕ) (passes : checked b ≡ Checked.Passed t m) where
@@ -90,11 +82,11 @@ module _ (b : List ℕ) (bytes : Bytes b) (old : Records) (t m : ℕ) (passes : 
   unfolding writing
   guards = rw (known .is, narrow-is, known .tokens, known .terminals)
 
-  pub refused-narrow : narrowCode b ≡ false → Owed b old (Written.Refused Refusal.IndexConstTooLarge) old
+  pub refused-narrow : narrowCode b ≡ false → Postcondition b old (Written.Refused Refusal.IndexConstTooLarge) old
   refused-narrow e = rw (guards, e) (refl, refl)
 
   module _ (narrow-code : narrowCode b ≡ true) where
-    pub refused-room : roomFor t m old ≡ false → Owed b old (Written.Refused Refusal.BufferTooShort) old
+    pub refused-room : roomFor t m old ≡ false → Postcondition b old (Written.Refused Refusal.BufferTooShort) old
     refused-room e = rw (guards, narrow-code, e) (refl, refl)
 
     module _ (roomy : roomFor t m old ≡ true) (marks rest : List Bool) (marked : marks ≡ marksOf b ++ rest) where
@@ -116,7 +108,7 @@ module _ (b : List ℕ) (bytes : Bytes b) (old : Records) (t m : ℕ) (passes : 
       pub key-bytes : length (keysOf (emitted b marks)) < 2 ^ 32
       key-bytes = rw (tokens-are marks rest marked) (omega (arith, keys-are, few-oracles b t m passes))
 
-      pub wrote : (new : Records) → Stored (emitted b marks) 0 old new → Owed b old (Written.Records t (32 * m)) new
+      pub wrote : (new : Records) → Stored (emitted b marks) 0 old new → Postcondition b old (Written.Records t (32 * m)) new
       wrote new s =
           let ts = form tree in
           let w = rw (tokens-are marks rest marked) at s in

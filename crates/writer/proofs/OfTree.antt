@@ -1,17 +1,22 @@
 -- The marks of a tree's commands, and that the tokens of these commands with these marks are the tree's form: `emitted-form`.
 -- Refusal 6 by the commands is that by the form: `narrow-form`.
-use Prim.Native.Nat.{ℕ}
-use mathlib.Core.Bool.{Bool, true, false, _&&_}
+use Prim.Native.Nat.{ℕ, _^_}
+use mathlib.Core.Bool.{Bool, true, false}
 use mathlib.Core.Path.{_≡_, refl, ap, _∙_}
 use mathlib.Core.List.{List, [], _∷_, _++_, append-assoc, append-nil}
 use native.Mathlib.Omega.{arith}
+use lib.Dec.{ltb}
 use lib.ListN.{length, getD, length-append}
 use lib.Seq.{drop-at, set-at, take-at}
-use Rattle.slices.specs.Bytes.{littleEndian}
+use Rattle.slices.specs.Bytes.{bytesValue, littleEndian}
 use Rattle.slices.proofs.Bytes.{value-of-bytes}
 use Rattle.semantics.proofs.Forms.{narrow-append}
+use Rattle.semantics.specs.declared.AmountList.{AmountList}
+use Rattle.semantics.specs.declared.BinOp.{BinOp}
+use Rattle.semantics.specs.declared.CmpOp.{CmpOp}
 use Rattle.semantics.specs.declared.Command.{Command}
 use Rattle.semantics.specs.declared.IdxOp.{IdxOp}
+use Rattle.semantics.specs.declared.UnOp.{UnOp}
 use Rattle.semantics.specs.Code.{code}
 use Rattle.semantics.specs.Operations.{Token, idxRow}
 use Rattle.semantics.specs.Parse.{instructions}
@@ -19,10 +24,10 @@ use Rattle.semantics.specs.Token.{exprForm, form, idxForm, narrow}
 use Rattle.semantics.specs.Trees.{Arith, Expr, IdxExpr}
 use Rattle.semantics.proofs.Encodable.{Encodable, ExprEncodable, IdxEncodable}
 use Rattle.semantics.proofs.Machine.{fold-code, fold-map, onExpr, onIdx}
-use Rattle.writer.specs.Marks.{Marking, converts, markStep, marksOf, narrowCode, narrowStep, unmarked}
-use Rattle.writer.specs.Runs.{converted, ownTokens, run}
-use Rattle.writer.proofs.Rows.{and-end, own-narrow}
-use Rattle.writer.specs.Storing.{Emission, emitStep, emitted}
+use Rattle.conversions.specs.Marks.{Marking, converts, markStep, marksOf, narrowCode, narrowStep, unmarked}
+use Rattle.token_table.specs.Runs.{converted, ownTokens, run}
+use Rattle.conversions.proofs.Narrow.{and-end, narrow-from}
+use Rattle.token_form.specs.Storing.{Emission, emitStep, emitted}
 
 -- of an index: the marks of its commands but the last
 inner : IdxExpr → List Bool
@@ -127,23 +132,34 @@ emitted-form (Arith.Compare o x y) k rest =
 -- ---- 6
 
 -- whether the tokens are narrow is what the pass over the commands tells
+own-narrow : (c : Command) (n : List ℕ) → narrow (ownTokens c n) ≡ narrowStep true c n
+own-narrow Command.Unknown n = refl
+own-narrow Command.IdxConst n = and-end (ltb (bytesValue n) (2 ^ 32))
+own-narrow Command.CurrIdx n = refl
+own-narrow (Command.Index o) n = elim o [ IdxOp.Add ↦ refl | IdxOp.Sub ↦ refl | IdxOp.Mul ↦ refl | IdxOp.Div ↦ refl ]
+own-narrow Command.Const n = refl
+own-narrow Command.CurrInputIdx n = refl
+own-narrow (Command.Lookup l) n =
+    elim l [ AmountList.Input ↦ refl | AmountList.Output ↦ refl | AmountList.InputIssue ↦ refl | AmountList.InputReIssue ↦ refl ]
+own-narrow (Command.Binary o) n =
+    elim o [
+      | BinOp.Add ↦ refl
+      | BinOp.Sub ↦ refl
+      | BinOp.Mul ↦ refl
+      | BinOp.Div ↦ refl
+      | BinOp.Mod ↦ refl
+      | BinOp.BitAnd ↦ refl
+      | BinOp.BitOr ↦ refl
+      | BinOp.Xor ↦ refl
+    ]
+own-narrow (Command.Unary o) n = elim o [ UnOp.Invert ↦ refl | UnOp.Negate ↦ refl ]
+own-narrow Command.PriceOracle1 n = refl
+own-narrow Command.PriceOracle1W n = refl
+own-narrow (Command.Compare o) n = elim o [ CmpOp.Eq ↦ refl | CmpOp.Lt ↦ refl | CmpOp.Leq ↦ refl | CmpOp.Gt ↦ refl | CmpOp.Geq ↦ refl ]
+
 narrow-run : (c : Command) (n : List ℕ) (marked : Bool) → narrow (run c n marked) ≡ narrowStep true c n
 narrow-run c n true = narrow-append (ownTokens c n) (converted true) ∙ and-end (narrow (ownTokens c n)) ∙ own-narrow c n
 narrow-run c n false = rw (append-nil (ownTokens c n)) (own-narrow c n)
-
-pub narrow-from : (b : Bool) (c : Command) (n : List ℕ) → (b && narrowStep true c n) ≡ narrowStep b c n
-narrow-from b Command.Unknown n = and-end b
-narrow-from b Command.IdxConst n = refl
-narrow-from b Command.CurrIdx n = and-end b
-narrow-from b (Command.Index o) n = and-end b
-narrow-from b Command.Const n = and-end b
-narrow-from b Command.CurrInputIdx n = and-end b
-narrow-from b (Command.Lookup l) n = and-end b
-narrow-from b (Command.Binary o) n = and-end b
-narrow-from b (Command.Unary o) n = and-end b
-narrow-from b Command.PriceOracle1 n = and-end b
-narrow-from b Command.PriceOracle1W n = and-end b
-narrow-from b (Command.Compare o) n = and-end b
 
 pub narrow-emitted : (c : List ℕ) (marks : List Bool) → narrow (emitted c marks) ≡ narrowCode c
 unfolding emitted narrowCode

@@ -12,10 +12,7 @@ ghost use Rattle.semantics.specs.declared.Checked.{Checked};
 ghost use Rattle.semantics.specs.Check.{checked};
 ghost use Rattle.semantics.specs.Write.{Writes, writing, written};
 ghost use Rattle.semantics.specs.Records.{recordsOf};
-
-mod left;
-mod records;
-mod table;
+ghost use Rattle.writer.specs.Postcondition.{Postcondition};
 
 // Conditions of so few tokens are written with smaller arrays, which take less time to make.
 const FEW_TOKENS: usize = 64;
@@ -56,10 +53,9 @@ fn write_with(
     marks: &mut [bool],
 ) -> Written
     requires { ⌜ (checked (now code) ≡ Checked.Passed tokens oracles) × (tokens ≤ length (now waiting)) × (tokens ≤ length (now marks)) ⌝ }
-    ensures { λ r. ⌜ r ≡ written (writing (now (code .entry)) (recordsOf (now (kinds .entry)) (now (numbers .entry)) (now (places .entry)) (now (keys .entry)))) ⌝ }
-    ensures { λ _. ⌜ Writes (writing (now (code .entry)) (recordsOf (now (kinds .entry)) (now (numbers .entry)) (now (places .entry)) (now (keys .entry)))) (recordsOf (now (kinds .entry)) (now (numbers .entry)) (now (places .entry)) (now (keys .entry))) (recordsOf (now (kinds .exit)) (now (numbers .exit)) (now (places .exit)) (now (keys .exit))) ⌝ }
+    ensures { λ r. ⌜ Postcondition (now (code .entry)) (recordsOf (now (kinds .entry)) (now (numbers .entry)) (now (places .entry)) (now (keys .entry))) r (recordsOf (now (kinds .exit)) (now (numbers .exit)) (now (places .exit)) (now (keys .exit))) ⌝ }
 {
-    if !left::mark(code, waiting, marks) {
+    if !conversions::mark(code, waiting, marks) {
         return Written::Refused(Refusal::IndexConstTooLarge);
     }
     let key_bytes = 32 * oracles;
@@ -73,7 +69,7 @@ fn write_with(
     ) {
         return Written::Refused(Refusal::BufferTooShort);
     }
-    records::put_all(code, marks, kinds, numbers, places, keys);
+    token_form::write_records(code, marks, kinds, numbers, places, keys);
     Written::Records {
         records: tokens,
         key_bytes,
@@ -91,8 +87,7 @@ fn write_passed(
     keys: &mut [u8],
 ) -> Written
     requires { ⌜ checked (now code) ≡ Checked.Passed tokens oracles ⌝ }
-    ensures { λ r. ⌜ r ≡ written (writing (now (code .entry)) (recordsOf (now (kinds .entry)) (now (numbers .entry)) (now (places .entry)) (now (keys .entry)))) ⌝ }
-    ensures { λ _. ⌜ Writes (writing (now (code .entry)) (recordsOf (now (kinds .entry)) (now (numbers .entry)) (now (places .entry)) (now (keys .entry)))) (recordsOf (now (kinds .entry)) (now (numbers .entry)) (now (places .entry)) (now (keys .entry))) (recordsOf (now (kinds .exit)) (now (numbers .exit)) (now (places .exit)) (now (keys .exit))) ⌝ }
+    ensures { λ r. ⌜ Postcondition (now (code .entry)) (recordsOf (now (kinds .entry)) (now (numbers .entry)) (now (places .entry)) (now (keys .entry))) r (recordsOf (now (kinds .exit)) (now (numbers .exit)) (now (places .exit)) (now (keys .exit))) ⌝ }
 {
     if tokens <= FEW_TOKENS {
         let mut waiting = [0; FEW_TOKENS];

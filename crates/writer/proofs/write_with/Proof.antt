@@ -1,34 +1,86 @@
 -- Each refusal is a test's (`refused-narrow`, `refused-room`); what was written is the tree's form (`wrote`).
 use borrow.Author.Needs.{needs}
-use Prim.Native.Nat.{_<_}
-use mathlib.Core.Path.{sym, _∙_}
+use Prim.Native.Nat.{ℕ, _*_, _<_, _^_}
+use mathlib.Core.Bool.{Bool, true, false}
+use mathlib.Core.Path.{_≡_, sym, _∙_}
+use mathlib.Core.List.{List, _++_}
 use native.Mathlib.Omega.{arith}
 use borrow.Author.Tests.{not-false, not-true}
+use lib.ListN.{length}
+use Rattle.slices.specs.Bytes.{Bytes}
 use Rattle.slices.proofs.Bytes.{all-of}
-use Rattle.semantics.specs.Records.{recordsOf}
+use Rattle.semantics.specs.declared.Refusal.{Refusal}
+use Rattle.semantics.specs.declared.Written.{Written}
+use Rattle.semantics.specs.Records.{Records, recordsOf}
+use Rattle.semantics.specs.Write.{keysOf, roomFor}
+use Rattle.conversions.specs.Marks.{marksOf, narrowCode}
+use Rattle.token_form.specs.Storing.{Room, Stored, emitted}
+use Rattle.writer.specs.Postcondition.{Postcondition}
 use Rattle.condition.proofs.Onward.{few-oracles}
 use Rattle.writer.proofs.Answers.{coded, fits, key-bytes, refused-narrow, refused-room, room, wrote}
 use Rattle.writer.proofs.write_with.Statement.{statement}
 use Rattle.writer.proofs.write_with.Tie as tie
 
+-- the arguments, and what each test comes to
+module _ (k : tie.After-shared-slice-known) where
+  abbrev code : List ℕ
+  code = k .before .args .code .now
+
+  abbrev tokens : ℕ
+  tokens = k .before .args .tokens
+
+  abbrev oracles : ℕ
+  oracles = k .before .args .oracles
+
+  abbrev old : Records
+  old = recordsOf (k .before .args .kinds .now) (k .before .args .numbers .now) (k .before .args .places .now) (k .before .args .keys .now)
+
+  bytes : Bytes code
+  bytes = all-of (λ x. x < 256) code 0 (λ i. k .shared-slice-known .given i .fits)
+
+  six : narrowCode code ≡ false → Postcondition code old (Written.Refused Refusal.IndexConstTooLarge) old
+  six = refused-narrow code bytes old tokens oracles (k .before .pre .0)
+
+  module _ (narrow : narrowCode code ≡ true) where
+    seven : roomFor tokens oracles old ≡ false → Postcondition code old (Written.Refused Refusal.BufferTooShort) old
+    seven = refused-room code bytes old tokens oracles (k .before .pre .0) narrow
+
+    module _ (roomy : roomFor tokens oracles old ≡ true) (marks rest : List Bool) (marked : marks ≡ marksOf code ++ rest) where
+      fitting : (length (keysOf (emitted code marks)) < 2 ^ 32) × Room (emitted code marks) old
+      fitting = (
+        key-bytes code bytes old tokens oracles (k .before .pre .0) narrow roomy marks rest marked,
+        room code bytes old tokens oracles (k .before .pre .0) narrow roomy marks rest marked,
+      )
+
+      none-refused : (new : Records) → Stored (emitted code marks) 0 old new → Postcondition code old (Written.Records tokens (32 * oracles)) new
+      none-refused = wrote code bytes old tokens oracles (k .before .pre .0) narrow roomy marks rest marked
+
+-- 6 and 7 do not fall
+narrow-told : (c : tie.After-has-room) → narrowCode (code (c .before .before .before .before .before .before .before .before .before .before .before .before .before .before .before)) ≡ true
+narrow-told c = sym (c .before .before .before .before .before .before .mark .ensures .narrow-is) ∙ not-false _ (c .before .if1 .left)
+
 pub write-with-spec : {M : Type 1} → statement M
 write-with-spec =
     tie.close
     (tie.spec
-    (λ c κs. fits (c .before .before .before .before .before .before .before .before .before .args .code .now) (c .before .before .before .before .before .before .before .before .before .args .tokens) (c .before .before .before .before .before .before .before .before .before .args .oracles) _ _ (c .before .before .before .before .before .before .before .before .before .pre .0) (c .before .before .before .before .before .before .before .before .before .pre .1) (c .before .before .before .before .before .before .before .before .before .pre .2))
+    (λ c κs. fits (code (c .before .before .before .before .before .before .before .before)) (tokens (c .before .before .before .before .before .before .before .before)) (oracles (c .before .before .before .before .before .before .before .before)) _ _ (c .before .before .before .before .before .before .before .before .before .pre .0) (c .before .before .before .before .before .before .before .before .before .pre .1) (c .before .before .before .before .before .before .before .before .before .pre .2))
     (λ c. search needs)
     (λ c. search needs)
-    (λ c. refused-narrow (c .before .before .before .before .before .before .before .before .before .before .before .before .before .before .before .args .code .now) (all-of (λ x. x < 256) (c .before .before .before .before .before .before .before .before .before .before .before .before .before .before .before .args .code .now) 0 (λ i. c .before .before .before .before .before .before .before .before .before .before .before .before .before .before .shared-slice-known .given i .fits)) (recordsOf (c .before .before .before .before .before .before .before .before .before .before .before .before .before .before .before .args .kinds .now) (c .before .before .before .before .before .before .before .before .before .before .before .before .before .before .before .args .numbers .now) (c .before .before .before .before .before .before .before .before .before .before .before .before .before .before .before .args .places .now) (c .before .before .before .before .before .before .before .before .before .before .before .before .before .before .before .args .keys .now)) (c .before .before .before .before .before .before .before .before .before .before .before .before .before .before .before .args .tokens) (c .before .before .before .before .before .before .before .before .before .before .before .before .before .before .before .args .oracles) (c .before .before .before .before .before .before .before .before .before .before .before .before .before .before .before .pre .0) (sym (c .before .before .before .before .before .mark .ensures .narrow-is) ∙ not-true _ (c .if1 .taken)))
-    (λ c. omega (arith, few-oracles (c .before .before .before .before .before .before .before .before .before .before .before .before .before .before .before .args .code .now) (c .before .before .before .before .before .before .before .before .before .before .before .before .before .before .before .args .tokens) (c .before .before .before .before .before .before .before .before .before .before .before .before .before .before .before .args .oracles) (c .before .before .before .before .before .before .before .before .before .before .before .before .before .before .before .pre .0)))
+    (λ c. six (c .before .before .before .before .before .before .before .before .before .before .before .before .before .before) (sym (c .before .before .before .before .before .mark .ensures .narrow-is) ∙ not-true _ (c .if1 .taken)))
+    (λ c. omega (arith, few-oracles (code (c .before .before .before .before .before .before .before .before .before .before .before .before .before .before)) (tokens (c .before .before .before .before .before .before .before .before .before .before .before .before .before .before)) (oracles (c .before .before .before .before .before .before .before .before .before .before .before .before .before .before)) (c .before .before .before .before .before .before .before .before .before .before .before .before .before .before .before .pre .0)))
     (λ c κs. search needs)
     (λ c. search needs)
     (λ c. search needs)
-    (λ c. refused-room (c .before .before .before .before .before .before .before .before .before .before .before .before .before .before .before .before .before .args .code .now) (all-of (λ x. x < 256) (c .before .before .before .before .before .before .before .before .before .before .before .before .before .before .before .before .before .args .code .now) 0 (λ i. c .before .before .before .before .before .before .before .before .before .before .before .before .before .before .before .before .shared-slice-known .given i .fits)) (recordsOf (c .before .before .before .before .before .before .before .before .before .before .before .before .before .before .before .before .before .args .kinds .now) (c .before .before .before .before .before .before .before .before .before .before .before .before .before .before .before .before .before .args .numbers .now) (c .before .before .before .before .before .before .before .before .before .before .before .before .before .before .before .before .before .args .places .now) (c .before .before .before .before .before .before .before .before .before .before .before .before .before .before .before .before .before .args .keys .now)) (c .before .before .before .before .before .before .before .before .before .before .before .before .before .before .before .before .before .args .tokens) (c .before .before .before .before .before .before .before .before .before .before .before .before .before .before .before .before .before .args .oracles) (c .before .before .before .before .before .before .before .before .before .before .before .before .before .before .before .before .before .pre .0) (sym (c .before .before .before .before .before .before .before .mark .ensures .narrow-is) ∙ not-false _ (c .before .before .if1 .left)) (sym (c .before .has-room .ensures) ∙ not-true _ (c .if2 .taken)))
-    (λ c κs. ((coded (c .before .before .before .before .before .before .before .before .before .before .before .before .before .before .before .before .before .before .before .before .before .before .args .code .now) (c .before .before .before .before .before .before .before .before .before .before .before .before .before .before .before .before .before .before .before .before .before .before .args .tokens) (c .before .before .before .before .before .before .before .before .before .before .before .before .before .before .before .before .before .before .before .before .before .before .args .oracles) _ (c .before .before .before .before .before .before .before .before .before .before .before .before .before .before .before .before .before .before .before .before .before .before .pre .0) (omega (arith, c .before .before .before .before .before .before .before .before .before .before .before .before .before .before .before .before .before .before .before .before .before .before .pre .2)), key-bytes (c .before .before .before .before .before .before .before .before .before .before .before .before .before .before .before .before .before .before .before .before .before .before .args .code .now) (all-of (λ x. x < 256) (c .before .before .before .before .before .before .before .before .before .before .before .before .before .before .before .before .before .before .before .before .before .before .args .code .now) 0 (λ i. c .before .before .before .before .before .before .before .before .before .before .before .before .before .before .before .before .before .before .before .before .before .shared-slice-known .given i .fits)) (recordsOf (c .before .before .before .before .before .before .before .before .before .before .before .before .before .before .before .before .before .before .before .before .before .before .args .kinds .now) (c .before .before .before .before .before .before .before .before .before .before .before .before .before .before .before .before .before .before .before .before .before .before .args .numbers .now) (c .before .before .before .before .before .before .before .before .before .before .before .before .before .before .before .before .before .before .before .before .before .before .args .places .now) (c .before .before .before .before .before .before .before .before .before .before .before .before .before .before .before .before .before .before .before .before .before .before .args .keys .now)) (c .before .before .before .before .before .before .before .before .before .before .before .before .before .before .before .before .before .before .before .before .before .before .args .tokens) (c .before .before .before .before .before .before .before .before .before .before .before .before .before .before .before .before .before .before .before .before .before .before .args .oracles) (c .before .before .before .before .before .before .before .before .before .before .before .before .before .before .before .before .before .before .before .before .before .before .pre .0) (sym (c .before .before .before .before .before .before .before .before .before .before .before .before .mark .ensures .narrow-is) ∙ not-false _ (c .before .before .before .before .before .before .before .if1 .left)) (sym (c .before .before .before .before .before .before .has-room .ensures) ∙ not-false _ (c .before .before .before .before .before .if2 .left)) _ _ (c .before .before .before .before .before .before .before .before .before .before .before .before .mark .ensures .marked (not-false _ (c .before .before .before .before .before .before .before .if1 .left)))), room (c .before .before .before .before .before .before .before .before .before .before .before .before .before .before .before .before .before .before .before .before .before .before .args .code .now) (all-of (λ x. x < 256) (c .before .before .before .before .before .before .before .before .before .before .before .before .before .before .before .before .before .before .before .before .before .before .args .code .now) 0 (λ i. c .before .before .before .before .before .before .before .before .before .before .before .before .before .before .before .before .before .before .before .before .before .shared-slice-known .given i .fits)) (recordsOf (c .before .before .before .before .before .before .before .before .before .before .before .before .before .before .before .before .before .before .before .before .before .before .args .kinds .now) (c .before .before .before .before .before .before .before .before .before .before .before .before .before .before .before .before .before .before .before .before .before .before .args .numbers .now) (c .before .before .before .before .before .before .before .before .before .before .before .before .before .before .before .before .before .before .before .before .before .before .args .places .now) (c .before .before .before .before .before .before .before .before .before .before .before .before .before .before .before .before .before .before .before .before .before .before .args .keys .now)) (c .before .before .before .before .before .before .before .before .before .before .before .before .before .before .before .before .before .before .before .before .before .before .args .tokens) (c .before .before .before .before .before .before .before .before .before .before .before .before .before .before .before .before .before .before .before .before .before .before .args .oracles) (c .before .before .before .before .before .before .before .before .before .before .before .before .before .before .before .before .before .before .before .before .before .before .pre .0) (sym (c .before .before .before .before .before .before .before .before .before .before .before .before .mark .ensures .narrow-is) ∙ not-false _ (c .before .before .before .before .before .before .before .if1 .left)) (sym (c .before .before .before .before .before .before .has-room .ensures) ∙ not-false _ (c .before .before .before .before .before .if2 .left)) _ _ (c .before .before .before .before .before .before .before .before .before .before .before .before .mark .ensures .marked (not-false _ (c .before .before .before .before .before .before .before .if1 .left)))))
+    (λ c. seven (c .before .before .before .before .before .before .before .before .before .before .before .before .before .before .before .before) (narrow-told (c .before)) (sym (c .before .has-room .ensures) ∙ not-true _ (c .if2 .taken)))
+    (λ c κs.
+    let q = fitting (c .before .before .before .before .before .before .before .before .before .before .before .before .before .before .before .before .before .before .before .before .before) (narrow-told (c .before .before .before .before .before .before)) (sym (c .before .before .before .before .before .before .has-room .ensures) ∙ not-false _ (c .before .before .before .before .before .if2 .left)) _ _ (c .before .before .before .before .before .before .before .before .before .before .before .before .mark .ensures .marked (not-false _ (c .before .before .before .before .before .before .before .if1 .left))) in
+    ((coded (code (c .before .before .before .before .before .before .before .before .before .before .before .before .before .before .before .before .before .before .before .before .before)) (tokens (c .before .before .before .before .before .before .before .before .before .before .before .before .before .before .before .before .before .before .before .before .before)) (oracles (c .before .before .before .before .before .before .before .before .before .before .before .before .before .before .before .before .before .before .before .before .before)) _ (c .before .before .before .before .before .before .before .before .before .before .before .before .before .before .before .before .before .before .before .before .before .before .pre .0) (omega (arith, c .before .before .before .before .before .before .before .before .before .before .before .before .before .before .before .before .before .before .before .before .before .before .pre .2)), q .0), q .1))
     (λ c. search needs)
     (λ c. search needs)
     (λ c. search needs)
     (λ c. search needs)
     (λ c. search needs)
     (λ c. search needs)
-    (λ c. wrote (c .before .before .before .before .before .before .before .before .before .before .before .before .before .before .before .before .before .before .before .before .before .before .before .before .before .before .before .before .before .before .before .args .code .now) (all-of (λ x. x < 256) (c .before .before .before .before .before .before .before .before .before .before .before .before .before .before .before .before .before .before .before .before .before .before .before .before .before .before .before .before .before .before .before .args .code .now) 0 (λ i. c .before .before .before .before .before .before .before .before .before .before .before .before .before .before .before .before .before .before .before .before .before .before .before .before .before .before .before .before .before .before .shared-slice-known .given i .fits)) (recordsOf (c .before .before .before .before .before .before .before .before .before .before .before .before .before .before .before .before .before .before .before .before .before .before .before .before .before .before .before .before .before .before .before .args .kinds .now) (c .before .before .before .before .before .before .before .before .before .before .before .before .before .before .before .before .before .before .before .before .before .before .before .before .before .before .before .before .before .before .before .args .numbers .now) (c .before .before .before .before .before .before .before .before .before .before .before .before .before .before .before .before .before .before .before .before .before .before .before .before .before .before .before .before .before .before .before .args .places .now) (c .before .before .before .before .before .before .before .before .before .before .before .before .before .before .before .before .before .before .before .before .before .before .before .before .before .before .before .before .before .before .before .args .keys .now)) (c .before .before .before .before .before .before .before .before .before .before .before .before .before .before .before .before .before .before .before .before .before .before .before .before .before .before .before .before .before .before .before .args .tokens) (c .before .before .before .before .before .before .before .before .before .before .before .before .before .before .before .before .before .before .before .before .before .before .before .before .before .before .before .before .before .before .before .args .oracles) (c .before .before .before .before .before .before .before .before .before .before .before .before .before .before .before .before .before .before .before .before .before .before .before .before .before .before .before .before .before .before .before .pre .0) (sym (c .before .before .before .before .before .before .before .before .before .before .before .before .before .before .before .before .before .before .before .before .before .mark .ensures .narrow-is) ∙ not-false _ (c .before .before .before .before .before .before .before .before .before .before .before .before .before .before .before .before .if1 .left)) (sym (c .before .before .before .before .before .before .before .before .before .before .before .before .before .before .before .has-room .ensures) ∙ not-false _ (c .before .before .before .before .before .before .before .before .before .before .before .before .before .before .if2 .left)) _ _ (c .before .before .before .before .before .before .before .before .before .before .before .before .before .before .before .before .before .before .before .before .before .mark .ensures .marked (not-false _ (c .before .before .before .before .before .before .before .before .before .before .before .before .before .before .before .before .if1 .left))) _ (c .before .before .before .before .before .before .before .before .put-all .ensures)))
+    (λ c.
+    none-refused (c .before .before .before .before .before .before .before .before .before .before .before .before .before .before .before .before .before .before .before .before .before .before .before .before .before .before .before .before .before .before) (narrow-told (c .before .before .before .before .before .before .before .before .before .before .before .before .before .before .before)) (sym (c .before .before .before .before .before .before .before .before .before .before .before .before .before .before .before .has-room .ensures) ∙ not-false _ (c .before .before .before .before .before .before .before .before .before .before .before .before .before .before .if2 .left)) _ _ (c .before .before .before .before .before .before .before .before .before .before .before .before .before .before .before .before .before .before .before .before .before .mark .ensures .marked (not-false _ (c .before .before .before .before .before .before .before .before .before .before .before .before .before .before .before .before .if1 .left))) _
+    (c .before .before .before .before .before .before .before .before .write-records .ensures)))

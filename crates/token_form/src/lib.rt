@@ -1,0 +1,219 @@
+// The records of a condition's tokens, command by command: each command is lent the rest of the four buffers.
+// `Command::Unknown` is not met: Check has turned down code that has it, and `write_command` asks for a known command.
+use commands::command_of;
+use commands::width_of;
+use semantics::Command;
+use token_table::run_of;
+ghost use mathlib.Core.Bool.{true};
+ghost use mathlib.Core.Path.{_≡_};
+ghost use mathlib.Core.List.{map};
+ghost use Prim.Native.Nat.{_+_, _≤_, _<_, _^_};
+ghost use lib.ListN.{length, take};
+ghost use Rattle.semantics.specs.Code.{commandRow, known};
+ghost use Rattle.semantics.specs.Evaluate.{over};
+ghost use Rattle.token_form.specs.Fields.{bit, numberAt, payload, placeAt};
+ghost use Rattle.conversions.specs.Operands.{operandBytes};
+ghost use Rattle.token_table.specs.Runs.{run};
+ghost use Rattle.semantics.specs.Records.{recordsOf};
+ghost use Rattle.token_form.specs.Storing.{Coded, Room, Stored, emitted, keysOf};
+
+// The number of a command's Num, which is 1 but for an index constant, and of its Bytes8.
+struct Numbers {
+    number: u64,
+    bits: u64,
+}
+
+fn numbers_of(command: Command, code: &[u8], at: usize) -> Numbers
+    requires { ⌜ at + commandRow command .width ≤ length (now code) ⌝ }
+    ensures { λ r. ⌜ (r .number ≡ payload command (operandBytes command (now (code .entry)) at) .number) × (r .bits ≡ payload command (operandBytes command (now (code .entry)) at) .bits) ⌝ }
+{
+    match command {
+        Command::Unknown => Numbers { number: 1, bits: 0 },
+        Command::IdxConst => Numbers {
+            number: slices::read_le64(code, at),
+            bits: 0,
+        },
+        Command::CurrIdx => Numbers { number: 1, bits: 0 },
+        Command::Index(_) => Numbers { number: 1, bits: 0 },
+        Command::Const => Numbers {
+            number: 1,
+            bits: slices::read_le64(code, at),
+        },
+        Command::CurrInputIdx => Numbers { number: 1, bits: 0 },
+        Command::Lookup(_) => Numbers { number: 1, bits: 0 },
+        Command::Binary(_) => Numbers { number: 1, bits: 0 },
+        Command::Unary(_) => Numbers { number: 1, bits: 0 },
+        Command::PriceOracle1 => Numbers {
+            number: 1,
+            bits: slices::read_le64(code, at + 32),
+        },
+        Command::PriceOracle1W => Numbers {
+            number: 1,
+            bits: slices::read_le64(code, at + 32),
+        },
+        Command::Compare(_) => Numbers { number: 1, bits: 0 },
+    }
+}
+
+// The number of a record.
+fn number_at(kind: u8, number: u64, bits: u64) -> u64
+    ensures { λ r. ⌜ r ≡ numberAt number bits kind ⌝ }
+{
+    if kind > 3 {
+        return 0;
+    }
+    if kind == 1 {
+        return number;
+    }
+    if kind == 2 {
+        return bits;
+    }
+    0
+}
+
+// The place of a record.
+fn place_at(kind: u8, place: u32) -> u32
+    ensures { λ r. ⌜ r ≡ placeAt place kind ⌝ }
+{
+    if kind == 3 { place } else { 0 }
+}
+
+// The records of the first `count` kinds of a row.
+fn write_row(
+    row: &[u8],
+    count: usize,
+    number: u64,
+    bits: u64,
+    place: u32,
+    kinds: &mut [u8],
+    numbers: &mut [u64],
+    places: &mut [u32],
+)
+    requires { ⌜ (count ≤ length (now row)) × (count ≤ length (now kinds)) × (count ≤ length (now numbers)) × (count ≤ length (now places)) ⌝ }
+    ensures { λ _. ⌜ now (kinds .exit) ≡ over (take count (now (row .entry))) (now (kinds .entry)) ⌝ }
+    ensures { λ _. ⌜ now (numbers .exit) ≡ over (map (numberAt number bits) (take count (now (row .entry)))) (now (numbers .entry)) ⌝ }
+    ensures { λ _. ⌜ now (places .exit) ≡ over (map (placeAt place) (take count (now (row .entry)))) (now (places .entry)) ⌝ }
+{
+    let mut j = 0;
+    while j < count {
+        let kind = row[j];
+        kinds[j] = kind;
+        numbers[j] = number_at(kind, number, bits);
+        places[j] = place_at(kind, place);
+        j += 1;
+    }
+}
+
+// A command's key, if it has one; its operand bytes stand at `at`. The answer is the number of key bytes.
+fn write_key(command: Command, code: &[u8], at: usize, keys: &mut [u8]) -> usize
+    requires { ⌜ (at + commandRow command .width ≤ length (now code)) × (length (payload command (operandBytes command (now code) at) .key) ≤ length (now keys)) ⌝ }
+    ensures { λ r. ⌜ r ≡ length (payload command (operandBytes command (now (code .entry)) at) .key) ⌝ }
+    ensures { λ _. ⌜ now (keys .exit) ≡ over (payload command (operandBytes command (now (code .entry)) at) .key) (now (keys .entry)) ⌝ }
+{
+    match command {
+        Command::Unknown => 0,
+        Command::IdxConst => 0,
+        Command::CurrIdx => 0,
+        Command::Index(_) => 0,
+        Command::Const => 0,
+        Command::CurrInputIdx => 0,
+        Command::Lookup(_) => 0,
+        Command::Binary(_) => 0,
+        Command::Unary(_) => 0,
+        Command::PriceOracle1 => {
+            slices::copy(code, at, keys, 0, 32);
+            32
+        }
+        Command::PriceOracle1W => {
+            slices::copy(code, at, keys, 0, 32);
+            32
+        }
+        Command::Compare(_) => 0,
+    }
+}
+
+// The tokens of a command: its own, and ScriptNumToLe64 where it is marked.
+fn count_of(own: usize, marked: bool) -> usize
+    requires { ⌜ own < 14 ⌝ }
+    ensures { λ r. ⌜ r ≡ own + bit marked ⌝ }
+{
+    if marked { own + 1 } else { own }
+}
+
+// How many records and key bytes a command took.
+struct Taken {
+    records: usize,
+    key_bytes: usize,
+}
+
+// The records of a command, whose operand bytes stand at `at`, at the front of what it is lent; its key, if it has one, stands at `place` in the whole key buffer.
+fn write_command(
+    command: Command,
+    marked: bool,
+    code: &[u8],
+    at: usize,
+    place: usize,
+    kinds: &mut [u8],
+    numbers: &mut [u64],
+    places: &mut [u32],
+    keys: &mut [u8],
+) -> Taken
+    requires { ⌜ (known command ≡ true) × (at + commandRow command .width ≤ length (now code)) × (place < 2 ^ 32) ⌝ }
+    requires { ⌜ Room (run command (operandBytes command (now code) at) marked) (recordsOf (now kinds) (now numbers) (now places) (now keys)) ⌝ }
+    ensures { λ r. ⌜ (r .records ≡ length (run command (operandBytes command (now (code .entry)) at) marked)) × (r .«key_bytes» ≡ length (keysOf (run command (operandBytes command (now (code .entry)) at) marked))) ⌝ }
+    ensures { λ _. ⌜ Stored (run command (operandBytes command (now (code .entry)) at) marked) place (recordsOf (now (kinds .entry)) (now (numbers .entry)) (now (places .entry)) (now (keys .entry))) (recordsOf (now (kinds .exit)) (now (numbers .exit)) (now (places .exit)) (now (keys .exit))) ⌝ }
+{
+    let own = run_of(command);
+    let row = own.kinds;
+    let records = count_of(own.count, marked);
+    let n = numbers_of(command, code, at);
+    write_row(
+        &row,
+        records,
+        n.number,
+        n.bits,
+        place as u32,
+        kinds,
+        numbers,
+        places,
+    );
+    let key_bytes = write_key(command, code, at, keys);
+    Taken { records, key_bytes }
+}
+
+// The records of all commands, of which `marks` says which are marked.
+pub fn write_records(
+    code: &[u8],
+    marks: &[bool],
+    kinds: &mut [u8],
+    numbers: &mut [u64],
+    places: &mut [u32],
+    keys: &mut [u8],
+)
+    requires { ⌜ Coded (now code) (length (now marks)) × (length (keysOf (emitted (now code) (now marks))) < 2 ^ 32) ⌝ }
+    requires { ⌜ Room (emitted (now code) (now marks)) (recordsOf (now kinds) (now numbers) (now places) (now keys)) ⌝ }
+    ensures { λ _. ⌜ Stored (emitted (now (code .entry)) (now (marks .entry))) 0 (recordsOf (now (kinds .entry)) (now (numbers .entry)) (now (places .entry)) (now (keys .entry))) (recordsOf (now (kinds .exit)) (now (numbers .exit)) (now (places .exit)) (now (keys .exit))) ⌝ }
+{
+    let mut at = 0;
+    let mut count = 0;
+    let mut n = 0;
+    let mut k = 0;
+    while at < code.len() {
+        let command = command_of(code[at]);
+        let taken = write_command(
+            command,
+            marks[count],
+            code,
+            at + 1,
+            k,
+            &mut kinds[n..],
+            &mut numbers[n..],
+            &mut places[n..],
+            &mut keys[k..],
+        );
+        n += taken.records;
+        k += taken.key_bytes;
+        count += 1;
+        at = at + 1 + width_of(command);
+    }
+}
