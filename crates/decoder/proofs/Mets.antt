@@ -22,14 +22,12 @@ use Rattle.semantics.specs.Token.{exprForm}
 use Rattle.semantics.specs.FromTokens.{Head, IdxHead, headForm, idxHeadForm, keyAt, numberAt}
 use Rattle.semantics.specs.Records.{Records, keyOf, tokenAt, tokenOf}
 use Rattle.decoder.specs.Before.{Whole, before}
-use Rattle.decoder.specs.Ending.{Production, Row, blank, ending, kindAt, ownCode, production, productionOf, productions, rowAt, rows}
-use Rattle.decoder.specs.Told.{ended}
+use Rattle.decoder.specs.Ending.{Production, Row, blank, ending, kindAt, ownCode, production, productionOf, productions, rowAt, rowFound, rows}
 use Rattle.decoder.specs.Pieces.{Met, Part, Placed, command, part, partOf, placedPiece, sizeOf}
 use Rattle.decoder.specs.declared.emission.Piece.{Piece}
-use Rattle.decoder.specs.declared.productions.Ending.{Ending}
 use Rattle.decoder.proofs.Tokens.{getD-before, length-before, recorded}
 use Rattle.decoder.proofs.Endings.{production-sound}
-use Rattle.decoder.proofs.Places.{At, neither, row-found, row-missing}
+use Rattle.decoder.proofs.Places.{At, neither, row-missing}
 use Rattle.decoder.proofs.Table.{all, all-at, value-at, values}
 
 -- the token at a place of a production's own
@@ -149,10 +147,10 @@ oracleW-row = command-row 33 16 refl
 
 -- the piece that the tokens before a place end with
 module _ (r : Records) (end : ℕ) where
-  pub met-none : Ending.Nothing ≡ ended (production (before (tokenAt r) end)) → 0 < end → Met r end (record { command = 0; first = end - 1 })
+  pub met-none : (k : ℕ) → k ≡ rowFound (production (before (tokenAt r) end)) → 29 ≤ k → 0 < end → Met r end (record { command = 0; first = end - 1 })
   unfolding part
-  met-none e h =
-      let is : part (before (tokenAt r) end) ≡ record { bytes = []; width = 1 } = ap (partOf (before (tokenAt r) end)) (row-missing (before (tokenAt r) end) e) in
+  met-none k e none h =
+      let is : part (before (tokenAt r) end) ≡ record { bytes = []; width = 1 } = ap (partOf (before (tokenAt r) end)) (row-missing (before (tokenAt r) end) k e none) in
       record {
         bytes = ap (λ (x : Part). x .bytes) is;
         width = ap (λ (x : Part). end - 1 + x .width) is ∙ back;
@@ -164,10 +162,7 @@ module _ (r : Records) (end : ℕ) where
       back : end - 1 + 1 ≡ end
       back = omega arith
 
-  module _ (k start : ℕ) (row : Ending.Row k start ≡ ended (production (before (tokenAt r) end))) where
-    at : At (tokenAt r) end k start
-    at = row-found (tokenAt r) end k start row
-
+  module _ (k start : ℕ) (at : At (tokenAt r) end k start) where
     split : before (tokenAt r) end ≡ ending (productionOf (before (tokenAt r) end) k) ++ before (tokenAt r) start
     split = production-sound (before (tokenAt r) end) (recorded r end) k (before (tokenAt r) start) (at .is)
 

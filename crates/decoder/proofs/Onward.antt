@@ -4,25 +4,23 @@ use mathlib.Core.Bool.{Bool, true, false, cond, _&&_}
 use mathlib.Core.Path.{_≡_, refl, sym, ap, subst, _∙_}
 use mathlib.Core.List.{List, _∷_}
 use native.Mathlib.Omega.{arith}
-use borrow.Author.Tests.{eqb-true, ne-eqb}
-use lib.Dec.{eqb}
+use borrow.Author.Tests.{eqb-false, eqb-true, ltb-false, ltb-true, ne-eqb}
+use lib.Dec.{eqb, ltb}
 use lib.ListN.{getD}
 use Rattle.semantics.specs.Operations.{Token, op}
 use Rattle.semantics.specs.declared.IdxOp.{IdxOp}
 use Rattle.semantics.specs.Records.{Records, keyOf, tokenAt, tokenOf}
-use Rattle.semantics.specs.FromTokens.{exprFromTokens, found, fromTokens, idxBetween, idxFromTokens, nothing, same}
+use Rattle.semantics.specs.Token.{exprForm}
+use Rattle.semantics.specs.FromTokens.{Found, exprFromTokens, found, fromTokens, headForm, idxBetween, idxFromTokens, idxHeadForm, nothing, same}
 use Rattle.decoder.specs.Before.{before}
-use Rattle.decoder.specs.Ending.{indexShape, kindAt, production, productionOf, valueShape}
-use Rattle.decoder.specs.Told.{ended, goOn, indexBy, told, valueBy}
-use Rattle.decoder.specs.declared.productions.Ending.{Ending}
-use Rattle.decoder.specs.declared.productions.IndexShape.{IndexShape}
-use Rattle.decoder.specs.declared.productions.ValueShape.{ValueShape}
+use Rattle.decoder.specs.Ending.{IndexShape, ValueShape, ending, ends, indexShape, kindAt, production, productionOf, rowFound, rows, valueShape}
+use Rattle.decoder.specs.Told.{goOn, indexBy, leftEnd, told, valueBy}
 use Rattle.decoder.specs.declared.readers.Reading.{Reading}
 use Rattle.decoder.proofs.Tokens.{length-before, recorded}
 use Rattle.decoder.proofs.Steps.{condition-step, conditionBy, conditionSeen, index-on, index-step, indexSeen, no-reading, value-on, value-step, valueSeen}
-use Rattle.decoder.proofs.Places.{row-found, row-missing}
+use Rattle.decoder.proofs.Places.{At}
 use Rattle.decoder.proofs.Endings.{isComparison}
-use Rattle.decoder.proofs.Table.{comparisons, no-comparisons}
+use Rattle.decoder.proofs.Table.{binaries, comparisons, converteds, first-terminal, index-terminals, last-terminals, lookups, no-comparisons, no-indexes, no-more-indexes, no-more-rows, no-values, plains, unaries}
 
 -- ScriptNumToLe64, or not
 same-seven : (kind number : ℕ) (key : List ℕ) → same (op 7) (tokenOf kind number key) ≡ eqb 7 kind
@@ -74,6 +72,16 @@ module _ (r : Records) (middle kind : ℕ) (is : kind ≡ kindAt (before (tokenA
         go zero q = none-there
         go (suc m) q = between-there m q ∙ rw (ne-eqb 7 kind (λ e. n (sym e)))
 
+-- a row that is none of the reader's
+module _ (seen : List Token → Found ℕ → Reading) (ts : List Token) (k : ℕ)
+    (found-by : (r : List Token) → seen ts (found k r) ≡ Reading.Nothing) (none-by : seen ts nothing ≡ Reading.Nothing) where
+  not-seen : k ≡ rowFound (production ts) → seen ts (production ts) ≡ Reading.Nothing
+  not-seen e = go (production ts) e
+    where
+      go : (g : Found ℕ) → k ≡ rowFound g → seen ts g ≡ Reading.Nothing
+      go (found j r) f = ap (λ (n : ℕ). seen ts (found n r)) (sym f) ∙ found-by r
+      go nothing f = none-by
+
 -- index expressions
 nowhere : List Token → Reading
 nowhere ts = Reading.Nothing
@@ -81,102 +89,140 @@ nowhere ts = Reading.Nothing
 pub index-middle : (r : Records) (start : ℕ) (x : Reading) → x ≡ told (idxFromTokens (before (tokenAt r) start)) → (middle : ℕ) → x ≡ Reading.Read middle → middle ≤ start
 index-middle r start x right middle there = index-on (tokenAt r) start middle (sym there ∙ right) nowhere .1
 
-pub index-none : (r : Records) (end : ℕ) → Ending.Nothing ≡ ended (production (before (tokenAt r) end)) → Reading.Nothing ≡ told (idxFromTokens (before (tokenAt r) end))
-index-none r end e = sym (index-step (before (tokenAt r) end) (recorded r end) ∙ ap (indexSeen (before (tokenAt r) end)) (row-missing (before (tokenAt r) end) e))
+module _ (r : Records) (end k : ℕ) (row : k ≡ rowFound (production (before (tokenAt r) end))) where
+  index-no : indexShape (productionOf (before (tokenAt r) end) k) ≡ IndexShape.NoIndex → Reading.Nothing ≡ told (idxFromTokens (before (tokenAt r) end))
+  index-no e =
+      let ts : List Token = before (tokenAt r) end in
+      sym (index-step ts (recorded r end) ∙ not-seen indexSeen ts k (λ rest. ap (λ (s : IndexShape). indexBy s rest) e) refl row)
 
-module _ (r : Records) (end k start : ℕ) (row : Ending.Row k start ≡ ended (production (before (tokenAt r) end)))
-    (shape : IndexShape) (is : shape ≡ indexShape (productionOf (before (tokenAt r) end) k)) where
-  index-by : told (idxFromTokens (before (tokenAt r) end)) ≡ indexBy shape (before (tokenAt r) start)
-  index-by =
-      index-step (before (tokenAt r) end) (recorded r end) ∙ ap (indexSeen (before (tokenAt r) end)) (row-found (tokenAt r) end k start row .is)
-      ∙ ap (λ (s : IndexShape). indexBy s (before (tokenAt r) start)) (sym is)
+  pub index-before : k < 17 → Reading.Nothing ≡ told (idxFromTokens (before (tokenAt r) end))
+  index-before h = index-no (no-indexes (before (tokenAt r) end) k h)
 
-  pub index-terminal : shape ≡ IndexShape.Terminal → Reading.Read start ≡ told (idxFromTokens (before (tokenAt r) end))
-  index-terminal e = sym (index-by ∙ rw (e, length-before (tokenAt r) start))
+  pub index-beyond : 23 ≤ k → Reading.Nothing ≡ told (idxFromTokens (before (tokenAt r) end))
+  index-beyond h = index-no (no-more-indexes (before (tokenAt r) end) k h)
 
-  pub index-no : shape ≡ IndexShape.NoIndex → Reading.Nothing ≡ told (idxFromTokens (before (tokenAt r) end))
-  index-no e = sym (index-by ∙ rw e)
+-- the left operand ends no further on
+pub left-low : (k middle kind n : ℕ) → n ≡ leftEnd k middle kind → n ≤ middle
+unfolding leftEnd
+left-low k middle kind n e = go (ltb k 21) (eqb kind 7) e
+  where
+    go : (a b : Bool) → n ≡ cond a middle (cond b (middle - 1) 0) → n ≤ middle
+    go true b e = omega arith
+    go false true e = omega arith
+    go false false e = omega arith
+
+-- before nothing there is no index
+no-index : (r : Records) → told (idxFromTokens (before (tokenAt r) 0)) ≡ Reading.Nothing
+unfolding before production rows ends ending headForm idxHeadForm exprForm
+no-index r = index-step (before (tokenAt r) 0) (recorded r 0)
+
+module _ (r : Records) (end k start : ℕ) (at : At (tokenAt r) end k start) where
+  index-by : (shape : IndexShape) → indexShape (productionOf (before (tokenAt r) end) k) ≡ shape
+      → told (idxFromTokens (before (tokenAt r) end)) ≡ indexBy shape (before (tokenAt r) start)
+  index-by shape is =
+      index-step (before (tokenAt r) end) (recorded r end) ∙ ap (indexSeen (before (tokenAt r) end)) (at .is)
+      ∙ ap (λ (s : IndexShape). indexBy s (before (tokenAt r) start)) is
+
+  pub index-terminal : 17 ≤ k → k < 19 → Reading.Read start ≡ told (idxFromTokens (before (tokenAt r) end))
+  index-terminal l h =
+      sym (index-by IndexShape.Terminal (index-terminals (before (tokenAt r) end) k l h) ∙ ap Reading.Read (length-before (tokenAt r) start))
 
   -- x is what is told of the right operand
-  module _ (x : Reading) (right : x ≡ told (idxFromTokens (before (tokenAt r) start))) where
-    pub plain-none : shape ≡ IndexShape.Plain → x ≡ Reading.Nothing → Reading.Nothing ≡ told (idxFromTokens (before (tokenAt r) end))
-    plain-none e n = sym (index-by ∙ rw e (no-reading (idxFromTokens (before (tokenAt r) start)) _ (sym n ∙ right)))
+  module _ (l : 19 ≤ k) (h : k < 23) (x : Reading) (right : x ≡ told (idxFromTokens (before (tokenAt r) start))) where
+    operation-by : (a : Bool) → ltb k 21 ≡ a → told (idxFromTokens (before (tokenAt r) end)) ≡ indexBy (cond a IndexShape.Plain IndexShape.Converted) (before (tokenAt r) start)
+    operation-by true e = index-by IndexShape.Plain (plains (before (tokenAt r) end) k l (ltb-true k 21 e))
+    operation-by false e = index-by IndexShape.Converted (converteds (before (tokenAt r) end) k (ltb-false k 21 e) h)
 
-    pub scaled-none : shape ≡ IndexShape.Scaled → x ≡ Reading.Nothing → Reading.Nothing ≡ told (idxFromTokens (before (tokenAt r) end))
-    scaled-none e n = sym (index-by ∙ rw e (no-reading (idxFromTokens (before (tokenAt r) start)) _ (sym n ∙ right)))
+    pub operation-none : x ≡ Reading.Nothing → Reading.Nothing ≡ told (idxFromTokens (before (tokenAt r) end))
+    operation-none n = sym (operation-by (ltb k 21) refl ∙ go (ltb k 21))
+      where
+        go : (a : Bool) → indexBy (cond a IndexShape.Plain IndexShape.Converted) (before (tokenAt r) start) ≡ Reading.Nothing
+        go true = no-reading (idxFromTokens (before (tokenAt r) start)) _ (sym n ∙ right)
+        go false = no-reading (idxFromTokens (before (tokenAt r) start)) _ (sym n ∙ right)
 
-    module _ (middle : ℕ) (there : x ≡ Reading.Read middle) where
-      on : (f : List Token → Reading) → (goOn (idxFromTokens (before (tokenAt r) start)) f ≡ f (before (tokenAt r) middle)) × (middle ≤ start)
-      on f = index-on (tokenAt r) start middle (sym there ∙ right) f
+    pub operation-left : (middle : ℕ) → x ≡ Reading.Read middle → (n : ℕ) → n ≡ leftEnd k middle (kindAt (before (tokenAt r) middle) 0)
+        → (y : Reading) → y ≡ told (idxFromTokens (before (tokenAt r) n)) → y ≡ told (idxFromTokens (before (tokenAt r) end))
+    unfolding leftEnd
+    operation-left middle there n is y left = left ∙ go (ltb k 21) refl (eqb kind 7) refl is
+      where
+        kind : ℕ
+        kind = kindAt (before (tokenAt r) middle) 0
 
-      pub plain-left : shape ≡ IndexShape.Plain → (y : Reading) → y ≡ told (idxFromTokens (before (tokenAt r) middle))
-          → y ≡ told (idxFromTokens (before (tokenAt r) end))
-      plain-left e y l = l ∙ sym (index-by ∙ rw e (on _ .0))
+        on : (f : List Token → Reading) → goOn (idxFromTokens (before (tokenAt r) start)) f ≡ f (before (tokenAt r) middle)
+        on f = index-on (tokenAt r) start middle (sym there ∙ right) f .0
 
-      module _ (e : shape ≡ IndexShape.Scaled) (kind : ℕ) (last : kind ≡ kindAt (before (tokenAt r) middle) 0) where
-        pub scaled-miss : (kind ≡ 7 → ⊥) → Reading.Nothing ≡ told (idxFromTokens (before (tokenAt r) end))
-        scaled-miss n = sym (index-by ∙ rw e (on _ .0 ∙ between-no r middle kind last _ n))
+        told-at : ℕ → Reading
+        told-at m = told (idxFromTokens (before (tokenAt r) m))
 
-        pub scaled-left : kind ≡ 7 → (y : Reading) → y ≡ told (idxFromTokens (before (tokenAt r) (middle - 1))) → y ≡ told (idxFromTokens (before (tokenAt r) end))
-        scaled-left s y l = l ∙ sym (index-by ∙ rw e (on _ .0 ∙ between-yes r middle kind last _ s))
+        go : (a : Bool) → ltb k 21 ≡ a → (b : Bool) → eqb kind 7 ≡ b → n ≡ cond a middle (cond b (middle - 1) 0) → told-at n ≡ told-at end
+        go true p b q e = ap told-at e ∙ sym (operation-by true p ∙ on _)
+        go false p true q e = ap told-at e ∙ sym (operation-by false p ∙ on _ ∙ between-yes r middle kind refl _ (eqb-true kind 7 q))
+        go false p false q e = ap told-at e ∙ no-index r ∙ sym (operation-by false p ∙ on _ ∙ between-no r middle kind refl _ (eqb-false kind 7 q))
 
 -- value expressions
-pub value-none : (r : Records) (end : ℕ) → Ending.Nothing ≡ ended (production (before (tokenAt r) end)) → Reading.Nothing ≡ told (exprFromTokens (before (tokenAt r) end))
-value-none r end e = sym (value-step (before (tokenAt r) end) (recorded r end) ∙ ap (valueSeen (before (tokenAt r) end)) (row-missing (before (tokenAt r) end) e))
+module _ (r : Records) (end k : ℕ) (row : k ≡ rowFound (production (before (tokenAt r) end))) where
+  pub value-beyond : 17 ≤ k → Reading.Nothing ≡ told (exprFromTokens (before (tokenAt r) end))
+  value-beyond h =
+      let ts : List Token = before (tokenAt r) end in
+      sym (value-step ts (recorded r end) ∙ not-seen valueSeen ts k (λ rest. ap (λ (s : ValueShape). valueBy s rest) (no-values ts k h)) refl row)
 
-module _ (r : Records) (end k start : ℕ) (row : Ending.Row k start ≡ ended (production (before (tokenAt r) end)))
-    (shape : ValueShape) (is : shape ≡ valueShape (productionOf (before (tokenAt r) end) k)) where
-  value-by : told (exprFromTokens (before (tokenAt r) end)) ≡ valueBy shape (before (tokenAt r) start)
-  value-by =
-      value-step (before (tokenAt r) end) (recorded r end) ∙ ap (valueSeen (before (tokenAt r) end)) (row-found (tokenAt r) end k start row .is)
-      ∙ ap (λ (s : ValueShape). valueBy s (before (tokenAt r) start)) (sym is)
+module _ (r : Records) (end k start : ℕ) (at : At (tokenAt r) end k start) where
+  value-by : (shape : ValueShape) → valueShape (productionOf (before (tokenAt r) end) k) ≡ shape
+      → told (exprFromTokens (before (tokenAt r) end)) ≡ valueBy shape (before (tokenAt r) start)
+  value-by shape is =
+      value-step (before (tokenAt r) end) (recorded r end) ∙ ap (valueSeen (before (tokenAt r) end)) (at .is)
+      ∙ ap (λ (s : ValueShape). valueBy s (before (tokenAt r) start)) is
 
-  pub value-terminal : shape ≡ ValueShape.Terminal → Reading.Read start ≡ told (exprFromTokens (before (tokenAt r) end))
-  value-terminal e = sym (value-by ∙ rw (e, length-before (tokenAt r) start))
+  pub value-const : k < 1 → Reading.Read start ≡ told (exprFromTokens (before (tokenAt r) end))
+  value-const h = sym (value-by ValueShape.Terminal (first-terminal (before (tokenAt r) end) k h) ∙ ap Reading.Read (length-before (tokenAt r) start))
 
-  pub value-no : shape ≡ ValueShape.NoValue → Reading.Nothing ≡ told (exprFromTokens (before (tokenAt r) end))
-  value-no e = sym (value-by ∙ rw e)
+  pub value-oracle : 15 ≤ k → k < 17 → Reading.Read start ≡ told (exprFromTokens (before (tokenAt r) end))
+  value-oracle l h =
+      sym (value-by ValueShape.Terminal (last-terminals (before (tokenAt r) end) k l h) ∙ ap Reading.Read (length-before (tokenAt r) start))
 
-  pub value-lookup : shape ≡ ValueShape.Lookup → (y : Reading) → y ≡ told (idxFromTokens (before (tokenAt r) start)) → y ≡ told (exprFromTokens (before (tokenAt r) end))
-  value-lookup e y l = l ∙ sym (value-by ∙ rw e)
+  pub value-lookup : 1 ≤ k → k < 5 → (y : Reading) → y ≡ told (idxFromTokens (before (tokenAt r) start)) → y ≡ told (exprFromTokens (before (tokenAt r) end))
+  value-lookup l h y e = e ∙ sym (value-by ValueShape.Lookup (lookups (before (tokenAt r) end) k l h))
 
   -- x is what is told of the operand, the right one of two
   module _ (x : Reading) (right : x ≡ told (exprFromTokens (before (tokenAt r) start))) where
-    pub value-unary : shape ≡ ValueShape.Unary → x ≡ told (exprFromTokens (before (tokenAt r) end))
-    value-unary e = right ∙ sym (value-by ∙ rw e)
+    pub value-unary : 5 ≤ k → k < 7 → x ≡ told (exprFromTokens (before (tokenAt r) end))
+    value-unary l h = right ∙ sym (value-by ValueShape.Unary (unaries (before (tokenAt r) end) k l h))
 
-    pub binary-none : shape ≡ ValueShape.Binary → x ≡ Reading.Nothing → Reading.Nothing ≡ told (exprFromTokens (before (tokenAt r) end))
-    binary-none e n = sym (value-by ∙ rw e (no-reading (exprFromTokens (before (tokenAt r) start)) _ (sym n ∙ right)))
+    module _ (l : 7 ≤ k) (h : k < 15) where
+      pub binary-none : x ≡ Reading.Nothing → Reading.Nothing ≡ told (exprFromTokens (before (tokenAt r) end))
+      binary-none n =
+          sym (value-by ValueShape.Binary (binaries (before (tokenAt r) end) k l h) ∙ no-reading (exprFromTokens (before (tokenAt r) start)) _ (sym n ∙ right))
 
-    pub binary-left : shape ≡ ValueShape.Binary → (middle : ℕ) → x ≡ Reading.Read middle → (y : Reading) → y ≡ told (exprFromTokens (before (tokenAt r) middle))
-        → y ≡ told (exprFromTokens (before (tokenAt r) end))
-    binary-left e middle there y l = l ∙ sym (value-by ∙ rw e (value-on (tokenAt r) start middle (sym there ∙ right) _ .0))
+      pub binary-left : (middle : ℕ) → x ≡ Reading.Read middle → (y : Reading) → y ≡ told (exprFromTokens (before (tokenAt r) middle))
+          → y ≡ told (exprFromTokens (before (tokenAt r) end))
+      binary-left middle there y e =
+          e ∙ sym (value-by ValueShape.Binary (binaries (before (tokenAt r) end) k l h) ∙ value-on (tokenAt r) start middle (sym there ∙ right) _ .0)
 
 pub value-middle : (r : Records) (start : ℕ) (x : Reading) → x ≡ told (exprFromTokens (before (tokenAt r) start)) → (middle : ℕ) → x ≡ Reading.Read middle → middle ≤ start
 value-middle r start x right middle there = value-on (tokenAt r) start middle (sym there ∙ right) nowhere .1
 
 -- conditions
-pub condition-none : (r : Records) (end : ℕ) → Ending.Nothing ≡ ended (production (before (tokenAt r) end)) → Reading.Nothing ≡ told (fromTokens (before (tokenAt r) end))
-condition-none r end e =
-    sym (condition-step (before (tokenAt r) end) (recorded r end) ∙ ap (conditionSeen (before (tokenAt r) end)) (row-missing (before (tokenAt r) end) e))
+module _ (r : Records) (end k : ℕ) (row : k ≡ rowFound (production (before (tokenAt r) end))) where
+  condition-no : isComparison (productionOf (before (tokenAt r) end) k) ≡ false → Reading.Nothing ≡ told (fromTokens (before (tokenAt r) end))
+  condition-no e =
+      let ts : List Token = before (tokenAt r) end in
+      sym (condition-step ts (recorded r end) ∙ not-seen conditionSeen ts k (λ rest. ap (λ (b : Bool). conditionBy b rest) e) refl row)
 
-module _ (r : Records) (end k start : ℕ) (row : Ending.Row k start ≡ ended (production (before (tokenAt r) end))) where
-  condition-by : told (fromTokens (before (tokenAt r) end)) ≡ conditionBy (isComparison (productionOf (before (tokenAt r) end) k)) (before (tokenAt r) start)
-  condition-by =
-      condition-step (before (tokenAt r) end) (recorded r end) ∙ ap (conditionSeen (before (tokenAt r) end)) (row-found (tokenAt r) end k start row .is)
+  pub condition-before : k < 24 → Reading.Nothing ≡ told (fromTokens (before (tokenAt r) end))
+  condition-before h = condition-no (no-comparisons (before (tokenAt r) end) k h)
 
-  pub condition-no : k < 24 → Reading.Nothing ≡ told (fromTokens (before (tokenAt r) end))
-  condition-no h = sym (condition-by ∙ ap (λ (b : Bool). conditionBy b (before (tokenAt r) start)) (no-comparisons (before (tokenAt r) end) k h))
+  pub condition-beyond : 29 ≤ k → Reading.Nothing ≡ told (fromTokens (before (tokenAt r) end))
+  condition-beyond h = condition-no (no-more-rows (before (tokenAt r) end) k h)
 
-  module _ (h : 24 ≤ k) (x : Reading) (right : x ≡ told (exprFromTokens (before (tokenAt r) start))) where
-    compared : told (fromTokens (before (tokenAt r) end)) ≡ conditionBy true (before (tokenAt r) start)
-    compared =
-        condition-by
-        ∙ ap (λ (b : Bool). conditionBy b (before (tokenAt r) start)) (comparisons (before (tokenAt r) end) k h (row-found (tokenAt r) end k start row .row))
+module _ (r : Records) (end k start : ℕ) (at : At (tokenAt r) end k start) (l : 24 ≤ k) (x : Reading) (right : x ≡ told (exprFromTokens (before (tokenAt r) start))) where
+  compared : told (fromTokens (before (tokenAt r) end)) ≡ conditionBy true (before (tokenAt r) start)
+  compared =
+      condition-step (before (tokenAt r) end) (recorded r end) ∙ ap (conditionSeen (before (tokenAt r) end)) (at .is)
+      ∙ ap (λ (b : Bool). conditionBy b (before (tokenAt r) start)) (comparisons (before (tokenAt r) end) k l (at .row))
 
-    pub compared-none : x ≡ Reading.Nothing → Reading.Nothing ≡ told (fromTokens (before (tokenAt r) end))
-    compared-none n = sym (compared ∙ no-reading (exprFromTokens (before (tokenAt r) start)) _ (sym n ∙ right))
+  pub compared-none : x ≡ Reading.Nothing → Reading.Nothing ≡ told (fromTokens (before (tokenAt r) end))
+  compared-none n = sym (compared ∙ no-reading (exprFromTokens (before (tokenAt r) start)) _ (sym n ∙ right))
 
-    pub compared-left : (middle : ℕ) → x ≡ Reading.Read middle → (y : Reading) → y ≡ told (exprFromTokens (before (tokenAt r) middle))
-        → y ≡ told (fromTokens (before (tokenAt r) end))
-    compared-left middle there y l = l ∙ sym (compared ∙ value-on (tokenAt r) start middle (sym there ∙ right) _ .0)
+  pub compared-left : (middle : ℕ) → x ≡ Reading.Read middle → (y : Reading) → y ≡ told (exprFromTokens (before (tokenAt r) middle))
+      → y ≡ told (fromTokens (before (tokenAt r) end))
+  compared-left middle there y e = e ∙ sym (compared ∙ value-on (tokenAt r) start middle (sym there ∙ right) _ .0)

@@ -7,18 +7,16 @@ use native.Mathlib.Numerals.{add-one}
 use native.Mathlib.Omega.{arith}
 use borrow.Author.Tests.{eq-eqb, eqb-false, eqb-true, le-ltb, lt-ltb, ltb-false, ltb-true, ne-eqb}
 use lib.Dec.{eqb, ltb}
-use lib.ListN.{length, getD, drop, drop-of-length-le, length-drop, List·getD-eq-default}
+use lib.ListN.{length, getD, drop, drop-of-length-le, List·getD-eq-default}
 use lib.Seq.{drop-cons}
 use Rattle.semantics.specs.Operations.{Token, op}
 use Rattle.semantics.specs.FromTokens.{Found, found, headForm, idxHeadForm, nothing}
 use Rattle.semantics.specs.Token.{exprForm}
 use Rattle.semantics.specs.Records.{Records, recordsOf, tokenAt}
 use Rattle.semantics.proofs.Tests.{and-true}
-use Rattle.decoder.specs.Before.{before, tokensBefore}
-use Rattle.decoder.specs.Ending.{Row, blank, candidateOf, ending, ends, fits, kindAt, production, rowAt, rows, rowsBefore}
-use Rattle.decoder.specs.Told.{ended}
-use Rattle.decoder.specs.declared.productions.Ending.{Ending}
-use Rattle.decoder.proofs.Tokens.{before-step, drop-before, getD-before, getD-beyond, length-before, tail-before}
+use Rattle.decoder.specs.Before.{Numbered, before, tokensBefore}
+use Rattle.decoder.specs.Ending.{Row, blank, candidateOf, ending, ends, fits, kindAt, production, rowAt, rowFound, rows, rowsBefore}
+use Rattle.decoder.proofs.Tokens.{before-step, drop-before, getD-before, getD-beyond, length-before}
 use Rattle.decoder.proofs.Endings.{production-ends}
 use Rattle.decoder.proofs.Table.{all, all-at, widths}
 
@@ -183,9 +181,9 @@ module _ (ts : List Token) (k : ℕ) (is : k ≡ candidateOf ts) (row : k < 29) 
 
 -- the two tokens that are looked at
 module _ (r : Records) (end : ℕ) where
-  pub checked-short : end < 3 → false ≡ ends (14 ∷ 36 ∷ []) (before (tokenAt r) (end - 1))
+  pub one-equal-short : end < 3 → false ≡ ends (14 ∷ 36 ∷ []) (before (tokenAt r) (end - 1))
   unfolding ends before
-  checked-short h = go (end - 1) (omega arith)
+  one-equal-short h = go (end - 1) (omega arith)
     where
       go : (n : ℕ) → n < 2 → false ≡ ends (14 ∷ 36 ∷ []) (before (tokenAt r) n)
       go zero g = refl
@@ -213,33 +211,30 @@ module _ (r : Records) (end : ℕ) where
           ap (λ (m : ℕ). ends (14 ∷ 36 ∷ []) (before (tokenAt r) m)) one
           ∙ rw (two, e) (ap (λ (b : Bool). eqb (getD (r .kinds) (suc n) 0) 14 && b) (and-yes _ ∙ fits-number 36 (getD (r .kinds) n 0) (getD (r .numbers) n 0)))
 
-  pub checked-no : 3 ≤ end → (getD (r .kinds) (end - 2) 0 ≡ 14 → ⊥) → false ≡ ends (14 ∷ 36 ∷ []) (before (tokenAt r) (end - 1))
-  checked-no h n = sym (two-tokens h ∙ rw (ne-eqb (getD (r .kinds) (end - 2) 0) 14 n))
+  pub one-equal-no : 3 ≤ end → (getD (r .kinds) (end - 2) 0 ≡ 14 → ⊥) → false ≡ ends (14 ∷ 36 ∷ []) (before (tokenAt r) (end - 1))
+  one-equal-no h n = sym (two-tokens h ∙ rw (ne-eqb (getD (r .kinds) (end - 2) 0) 14 n))
 
-  pub checked-yes : 3 ≤ end → getD (r .kinds) (end - 2) 0 ≡ 14 → (b : Bool) → b ≡ fits 36 (getD (r .kinds) (end - 3) 0) (getD (r .numbers) (end - 3) 0)
+  pub one-equal-yes : 3 ≤ end → getD (r .kinds) (end - 2) 0 ≡ 14 → (b : Bool) → b ≡ fits 36 (getD (r .kinds) (end - 3) 0) (getD (r .numbers) (end - 3) 0)
       → b ≡ ends (14 ∷ 36 ∷ []) (before (tokenAt r) (end - 1))
-  checked-yes h e b f = f ∙ sym (two-tokens h ∙ rw e)
+  one-equal-yes h e b f = f ∙ sym (two-tokens h ∙ rw e)
 
 -- the candidate's number is k: it is no row, its marks do not fit, or they do
 module _ (t : ℕ → Token) (end k : ℕ) (is : k ≡ candidateOf (before t end)) where
-  pub no-row : 29 ≤ k → Ending.Nothing ≡ ended (production (before t end))
+  pub no-row : 29 ≤ k → 29 ≡ rowFound (production (before t end))
   unfolding production
   no-row h = rw (← is, le-ltb k 29 h)
 
-  pub no-fit : k < 29 → false ≡ ends (rowAt k .marks) (before t end) → Ending.Nothing ≡ ended (production (before t end))
+  pub no-fit : k < 29 → false ≡ ends (rowAt k .marks) (before t end) → 29 ≡ rowFound (production (before t end))
   unfolding production
   no-fit h e = rw (← is, lt-ltb k 29 h, ← e)
 
-  pub row-fits : k < 29 → true ≡ ends (rowAt k .marks) (before t end) → (w : ℕ) → w ≡ length (rowAt k .marks)
-      → (Ending.Row k (end - w) ≡ ended (production (before t end))) × (w ≤ end)
+  pub row-fits : k < 29 → true ≡ ends (rowAt k .marks) (before t end) → k ≡ rowFound (production (before t end))
   unfolding production
-  row-fits h e w wide =
-      let l = ends-length (rowAt k .marks) (before t end) (sym e) in
-      (rw (← is, lt-ltb k 29 h, ← e, length-drop, length-before, wide), omega (arith, l, length-before t end))
+  row-fits h e = rw (← is, lt-ltb k 29 h, ← e)
 
   pub row-single : k < 29 → kindAt (before t end) 0 < 36 → kindAt (before t end) 3 < 36 → (w : ℕ) → w ≡ length (rowAt k .marks) → w ≡ 1
-      → (Ending.Row k (end - 1) ≡ ended (production (before t end))) × (1 ≤ end)
-  row-single h last fourth w wide one = row-fits h (sym (single-ends (before t end) k is h (sym wide ∙ one) last fourth)) 1 (sym one ∙ wide)
+      → k ≡ rowFound (production (before t end))
+  row-single h last fourth w wide one = row-fits h (sym (single-ends (before t end) k is h (sym wide ∙ one) last fourth))
 
   module _ (h : k < 29) (fourth : kindAt (before t end) 3 < 36) (w : ℕ) (wide : w ≡ length (rowAt k .marks)) (four : w ≡ 4)
       (b : Bool) (checked : b ≡ ends (14 ∷ 36 ∷ []) (before t (end - 1))) where
@@ -247,11 +242,11 @@ module _ (t : ℕ → Token) (end k : ℕ) (is : k ≡ candidateOf (before t end
     four-is =
         checked ∙ ap (ends (14 ∷ 36 ∷ [])) (sym (drop-before t 1 end)) ∙ sym (four-end (before t end) k is h (sym wide ∙ four) fourth)
 
-    pub four-no : b ≡ false → Ending.Nothing ≡ ended (production (before t end))
+    pub four-no : b ≡ false → 29 ≡ rowFound (production (before t end))
     four-no e = no-fit h (sym e ∙ four-is)
 
-    pub row-four : b ≡ true → (Ending.Row k (end - 4) ≡ ended (production (before t end))) × (4 ≤ end)
-    row-four e = row-fits h (sym e ∙ four-is) 4 (sym four ∙ wide)
+    pub row-four : b ≡ true → k ≡ rowFound (production (before t end))
+    row-four e = row-fits h (sym e ∙ four-is)
 
 -- what the code knows of a row that was found
 pub record At (t : ℕ → Token) (end k start : ℕ) : Type 0 where
@@ -260,30 +255,33 @@ pub record At (t : ℕ → Token) (end k start : ℕ) : Type 0 where
   pub width : start + length (rowAt k .marks) ≡ end
   pub low : start < end
 
-pub row-found : (t : ℕ → Token) (end k start : ℕ) → Ending.Row k start ≡ ended (production (before t end)) → At t end k start
-row-found t end k start e = go (production (before t end)) refl e
+pub row-found : (t : ℕ → Token) (end k w : ℕ) → k ≡ rowFound (production (before t end)) → k < 29 → w ≡ length (rowAt k .marks) → (w ≤ end) × At t end k (end - w)
+row-found t end k w e low wide = go (production (before t end)) refl e
   where
-    go : (g : Found ℕ) → production (before t end) ≡ g → Ending.Row k start ≡ ended g → At t end k start
+    go : (g : Found ℕ) → production (before t end) ≡ g → k ≡ rowFound g → (w ≤ end) × At t end k (end - w)
     go (found j r) q f =
-        let same : j ≡ k = cc in
-        let size : length r ≡ start = cc in
-        let h = production-ends (before t end) j r q in
-        let w = widths j (h .row) in
-        let l = ends-length (rowAt j .marks) (before t end) (h .marked) in
+        let h = production-ends (before t end) k r (q ∙ ap (λ (n : ℕ). found n r) (sym f)) in
+        let one = widths k low .0 in
+        let l = ends-length (rowAt k .marks) (before t end) (h .marked) in
         let b = length-before t end in
-        let d : length r ≡ end - length (rowAt j .marks) = sym (ap length (h .rest)) ∙ length-drop (length (rowAt j .marks)) (before t end) ∙ ap (λ (n : ℕ). n - length (rowAt j .marks)) b in
-        let there : r ≡ before t start = tail-before t end (length (rowAt j .marks)) r (sym (h .rest)) ∙ ap (before t) size in
-        rw (← same) (record {
-          is = q ∙ ap (found j) there;
-          row = h .row;
-          width = omega arith;
-          low = omega arith;
-        })
-    go nothing q f = let z : _≡_ {A = ℕ} 0 1 = cc in absurd (omega arith)
+        let there : r ≡ before t (end - w) = sym (h .rest) ∙ drop-before t (length (rowAt k .marks)) end ∙ ap (λ (n : ℕ). before t (end - n)) (sym wide) in (
+          omega arith,
+          record {
+            is = q ∙ ap (λ (n : ℕ). found n r) (sym f) ∙ ap (found k) there;
+            row = low;
+            width = omega arith;
+            low = omega arith;
+          },
+        )
+    go nothing q f = absurd (omega arith)
 
-pub row-missing : (ts : List Token) → Ending.Nothing ≡ ended (production ts) → production ts ≡ nothing
-row-missing ts e = go (production ts) e
+-- the records before an earlier place
+pub fewer : (kinds numbers : List ℕ) (end n : ℕ) → Numbered kinds numbers end → n ≤ end → Numbered kinds numbers n
+fewer kinds numbers end n p h = record { known = p .known; paired = p .paired; within = omega (arith, p .within) }
+
+pub row-missing : (ts : List Token) (k : ℕ) → k ≡ rowFound (production ts) → 29 ≤ k → production ts ≡ nothing
+row-missing ts k e h = go (production ts) refl e
   where
-    go : (g : Found ℕ) → Ending.Nothing ≡ ended g → g ≡ nothing
-    go (found k r) f = cc
-    go nothing f = refl
+    go : (g : Found ℕ) → production ts ≡ g → k ≡ rowFound g → g ≡ nothing
+    go (found j r) q f = let l = production-ends ts j r q .row in absurd (omega arith)
+    go nothing q f = refl

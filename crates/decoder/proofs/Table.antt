@@ -6,17 +6,15 @@ use mathlib.Core.List.{List, [], _∷_, map}
 use native.Mathlib.Nat.{add-suc, add-zero, suc-add}
 use native.Mathlib.Numerals.{add-two}
 use native.Mathlib.Omega.{arith}
-use borrow.Author.Tests.{leb-true}
-use lib.Dec.{leb}
-use lib.ListN.{length, getD, take, drop, getD-replicate, replicate, List·getD-append, List·getD-map}
+use borrow.Author.Tests.{leb-true, ltb-false, ltb-true}
+use lib.Dec.{leb, ltb}
+use lib.ListN.{length, getD, take, drop, getD-replicate, replicate, List·getD-append, List·getD-eq-default, List·getD-map}
 use lib.Seq.{getD-drop, getD-take}
 use Rattle.semantics.specs.Operations.{Token}
 use Rattle.semantics.specs.Token.{exprForm}
 use Rattle.semantics.specs.FromTokens.{headForm, idxHeadForm}
 use Rattle.semantics.proofs.Tests.{and-true}
-use Rattle.decoder.specs.Ending.{Production, Row, blank, ending, entry, indexShape, productionOf, productions, rowAt, rows, valueShape}
-use Rattle.decoder.specs.declared.productions.IndexShape.{IndexShape}
-use Rattle.decoder.specs.declared.productions.ValueShape.{ValueShape}
+use Rattle.decoder.specs.Ending.{IndexShape, Production, Row, ValueShape, blank, ending, entry, indexShape, productionOf, productions, rowAt, rows, valueShape}
 use Rattle.decoder.proofs.Endings.{isComparison}
 
 -- a test that every element of a list passes
@@ -69,6 +67,17 @@ module _ {A : Type 0} (f : Production → A) (ts : List Token) (a : A) (from n k
   rows-are : f (productionOf ts k) ≡ a
   rows-are = sym (List·getD-map f (productions ts) k Production.between) ∙ run-at (map f (productions ts)) (f Production.between) a from n k run low high
 
+-- and of no row's number
+module _ {A : Type 0} (f : Production → A) (ts : List Token) (a : A) (from n k : ℕ) (run : take n (drop from (map f (productions ts))) ≡ replicate n a)
+    (low : from ≤ k) (size : length (productions ts) ≡ from + n) (last : f Production.between ≡ a) where
+  rows-from : f (productionOf ts k) ≡ a
+  rows-from = go (ltb k (from + n)) refl
+    where
+      go : (b : Bool) → ltb k (from + n) ≡ b → f (productionOf ts k) ≡ a
+      go true e = rows-are f ts a from n k run low (ltb-true k (from + n) e)
+      go false e =
+          ap f (List·getD-eq-default (productions ts) Production.between {n = k} (omega (arith, size, ltb-false k (from + n) e))) ∙ last
+
 module _ (ts : List Token) (k : ℕ) where
   pub first-terminal : k < 1 → valueShape (productionOf ts k) ≡ ValueShape.Terminal
   first-terminal h = rows-are valueShape ts ValueShape.Terminal 0 1 k refl (omega arith) (omega arith)
@@ -85,8 +94,8 @@ module _ (ts : List Token) (k : ℕ) where
   pub last-terminals : 15 ≤ k → k < 17 → valueShape (productionOf ts k) ≡ ValueShape.Terminal
   last-terminals l h = rows-are valueShape ts ValueShape.Terminal 15 2 k refl (omega arith) (omega arith)
 
-  pub no-values : 17 ≤ k → k < 29 → valueShape (productionOf ts k) ≡ ValueShape.NoValue
-  no-values l h = rows-are valueShape ts ValueShape.NoValue 17 12 k refl (omega arith) (omega arith)
+  pub no-values : 17 ≤ k → valueShape (productionOf ts k) ≡ ValueShape.NoValue
+  no-values l = rows-from valueShape ts ValueShape.NoValue 17 12 k refl l refl refl
 
   pub no-indexes : k < 17 → indexShape (productionOf ts k) ≡ IndexShape.NoIndex
   no-indexes h = rows-are indexShape ts IndexShape.NoIndex 0 17 k refl (omega arith) (omega arith)
@@ -97,14 +106,17 @@ module _ (ts : List Token) (k : ℕ) where
   pub plains : 19 ≤ k → k < 21 → indexShape (productionOf ts k) ≡ IndexShape.Plain
   plains l h = rows-are indexShape ts IndexShape.Plain 19 2 k refl (omega arith) (omega arith)
 
-  pub scaleds : 21 ≤ k → k < 23 → indexShape (productionOf ts k) ≡ IndexShape.Scaled
-  scaleds l h = rows-are indexShape ts IndexShape.Scaled 21 2 k refl (omega arith) (omega arith)
+  pub converteds : 21 ≤ k → k < 23 → indexShape (productionOf ts k) ≡ IndexShape.Converted
+  converteds l h = rows-are indexShape ts IndexShape.Converted 21 2 k refl (omega arith) (omega arith)
 
-  pub no-more-indexes : 23 ≤ k → k < 29 → indexShape (productionOf ts k) ≡ IndexShape.NoIndex
-  no-more-indexes l h = rows-are indexShape ts IndexShape.NoIndex 23 6 k refl (omega arith) (omega arith)
+  pub no-more-indexes : 23 ≤ k → indexShape (productionOf ts k) ≡ IndexShape.NoIndex
+  no-more-indexes l = rows-from indexShape ts IndexShape.NoIndex 23 6 k refl l refl refl
 
   pub no-comparisons : k < 24 → isComparison (productionOf ts k) ≡ false
   no-comparisons h = rows-are isComparison ts false 0 24 k refl (omega arith) (omega arith)
+
+  pub no-more-rows : 29 ≤ k → isComparison (productionOf ts k) ≡ false
+  no-more-rows h = ap isComparison (List·getD-eq-default (productions ts) Production.between {n = k} h)
 
   pub comparisons : 24 ≤ k → k < 29 → isComparison (productionOf ts k) ≡ true
   comparisons l h = rows-are isComparison ts true 24 5 k refl (omega arith) (omega arith)

@@ -11,8 +11,6 @@ use Rattle.semantics.specs.declared.IdxOp.{IdxOp}
 use Rattle.semantics.specs.declared.CmpOp.{CmpOp}
 use Rattle.semantics.specs.Code.{idxCode, exprCode}
 use Rattle.semantics.specs.FromTokens.{Found, Head, IdxHead, found, headForm, heads, idxHeadForm, nothing, numberAt}
-use Rattle.decoder.specs.declared.productions.ValueShape.{ValueShape}
-use Rattle.decoder.specs.declared.productions.IndexShape.{IndexShape}
 
 pub data Production : Type 0 where
   value : Head → Production
@@ -50,7 +48,21 @@ ownCode (Production.index (IdxHead.oper o)) = idxRow o .command ∷ []
 ownCode Production.between = []
 ownCode (Production.comparison o) = cmpRow o .command ∷ []
 
--- what stands before its own tokens
+-- what stands before the own tokens of a value: nothing, an index, a value or two values
+pub data ValueShape : Type 0 where
+  Terminal : ValueShape
+  Lookup : ValueShape
+  Unary : ValueShape
+  Binary : ValueShape
+  NoValue : ValueShape
+
+-- and of an index: nothing, two indexes, or two indexes with ScriptNumToLe64 between them
+pub data IndexShape : Type 0 where
+  Terminal : IndexShape
+  Plain : IndexShape
+  Converted : IndexShape
+  NoIndex : IndexShape
+
 abbrev pub valueShape : Production → ValueShape
 valueShape (Production.value (Head.const n)) = ValueShape.Terminal
 valueShape (Production.value (Head.lookup l)) = ValueShape.Lookup
@@ -68,8 +80,8 @@ indexShape (Production.index (IdxHead.const n)) = IndexShape.Terminal
 indexShape (Production.index IdxHead.curr) = IndexShape.Terminal
 indexShape (Production.index (IdxHead.oper IdxOp.Add)) = IndexShape.Plain
 indexShape (Production.index (IdxHead.oper IdxOp.Sub)) = IndexShape.Plain
-indexShape (Production.index (IdxHead.oper IdxOp.Mul)) = IndexShape.Scaled
-indexShape (Production.index (IdxHead.oper IdxOp.Div)) = IndexShape.Scaled
+indexShape (Production.index (IdxHead.oper IdxOp.Mul)) = IndexShape.Converted
+indexShape (Production.index (IdxHead.oper IdxOp.Div)) = IndexShape.Converted
 indexShape Production.between = IndexShape.NoIndex
 indexShape (Production.comparison o) = IndexShape.NoIndex
 
@@ -130,3 +142,8 @@ unfoldable pub production : List Token → Found ℕ
 production ts =
     let k = candidateOf ts in
     cond (ltb k 29 && ends (rowAt k .marks) ts) (found k (drop (length (rowAt k .marks)) ts)) nothing
+
+-- its number, or the number of rows
+abbrev pub rowFound : Found ℕ → ℕ
+rowFound (found k r) = k
+rowFound nothing = 29

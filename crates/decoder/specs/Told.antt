@@ -1,5 +1,7 @@
 -- What the code's enums say of the definitions' answers.
-use Prim.Native.Nat.{ℕ, _≤_}
+use Prim.Native.Nat.{ℕ, _-_, _≤_}
+use mathlib.Core.Bool.{cond}
+use lib.Dec.{eqb, ltb}
 use mathlib.Core.Path.{_≡_}
 use mathlib.Core.Option.{Option, none, some}
 use mathlib.Core.List.{List}
@@ -10,20 +12,13 @@ use Rattle.semantics.specs.FromTokens.{Found, exprFromTokens, found, idxBetween
 use Rattle.semantics.specs.Code.{maxCode, maxTokens}
 use Rattle.semantics.specs.Records.{Records, unsound}
 use Rattle.decoder.specs.declared.soundness.Scanned.{Scanned}
-use Rattle.decoder.specs.declared.productions.Ending.{Ending}
-use Rattle.decoder.specs.declared.productions.ValueShape.{ValueShape}
-use Rattle.decoder.specs.declared.productions.IndexShape.{IndexShape}
+use Rattle.decoder.specs.Ending.{IndexShape, ValueShape}
 use Rattle.decoder.specs.declared.readers.Reading.{Reading}
 
 -- the first unsound record
 abbrev pub scanned : Option ℕ → Scanned
 scanned none = Scanned.Sound
 scanned (some i) = Scanned.Unsound i
-
--- the row that tokens end with, and how many tokens stand before it
-abbrev pub ended : Found ℕ → Ending
-ended (found k r) = Ending.Row k (length r)
-ended nothing = Ending.Nothing
 
 -- how many tokens stand before what was read
 abbrev pub told : {A : Type 0} → Found A → Reading
@@ -39,8 +34,12 @@ goOn nothing f = Reading.Nothing
 abbrev pub indexBy : IndexShape → List Token → Reading
 indexBy IndexShape.Terminal r = Reading.Read (length r)
 indexBy IndexShape.Plain r = goOn (idxFromTokens r) λ r₁. told (idxFromTokens r₁)
-indexBy IndexShape.Scaled r = goOn (idxFromTokens r) λ r₁. goOn (idxBetween IdxOp.Mul r₁) λ r₂. told (idxFromTokens r₂)
+indexBy IndexShape.Converted r = goOn (idxFromTokens r) λ r₁. goOn (idxBetween IdxOp.Mul r₁) λ r₂. told (idxFromTokens r₂)
 indexBy IndexShape.NoIndex r = Reading.Nothing
+
+-- where the left operand of an index operation ends, whose right one begins at `middle`, by the kind before it
+unfoldable pub leftEnd : ℕ → ℕ → ℕ → ℕ
+leftEnd row middle kind = cond (ltb row 21) middle (cond (eqb kind 7) (middle - 1) 0)
 
 abbrev pub valueBy : ValueShape → List Token → Reading
 valueBy ValueShape.Terminal r = Reading.Read (length r)

@@ -1,9 +1,11 @@
 // The code of the tokens that were read: a piece for each production, from the last token back. First the oracle rule and the length are judged, and then the pieces are written.
-use crate::productions::Ending;
+use crate::productions::CURR_INP;
 use crate::productions::INPUT;
+use crate::productions::ROWS;
 use crate::productions::command;
 use crate::productions::kind_before;
 use crate::productions::production;
+use crate::productions::width;
 ghost use mathlib.Core.Path.{_≡_};
 ghost use mathlib.Core.Bool.{_||_};
 ghost use mathlib.Core.List.{List, [], _∷_, _++_};
@@ -16,8 +18,6 @@ ghost use Rattle.semantics.specs.Records.{recordsOf};
 ghost use Rattle.decoder.specs.Before.{Numbered, Whole, tokensBefore};
 ghost use Rattle.semantics.specs.Evaluate.{over};
 ghost use Rattle.decoder.specs.Pieces.{Met, Placed, joined, judged, pieces, placedPiece, put, sizeOf};
-
-const CURR_INP: u8 = 4;
 
 // A piece's command, 0 where it has none, and the place of its first token.
 pub struct Piece {
@@ -37,12 +37,14 @@ fn met(kinds: &[u8], numbers: &[u64], end: usize) -> Piece
     requires { ⌜ 0 < end ⌝ }
     ensures { λ r. ⌜ ((places keys : List ℕ) → Met (recordsOf (now (kinds .entry)) (now (numbers .entry)) places keys) end r) ⌝ }
 {
-    let Ending::Row { row, start } = production(kinds, numbers, end) else {
+    let row = production(kinds, numbers, end);
+    if ROWS <= row {
         return Piece {
             command: 0,
             first: end - 1,
         };
-    };
+    }
+    let start = end - width(row);
     if row == INPUT {
         if kind_before(kinds, start, 0) == CURR_INP {
             return Piece {

@@ -3,44 +3,54 @@ ghost use mathlib.Core.Path.{_≡_};
 ghost use mathlib.Core.List.{List, [], _∷_};
 ghost use Prim.Native.Nat.{ℕ, _-_, _≤_, _<_};
 ghost use lib.ListN.{length, getD};
-ghost use Rattle.semantics.specs.Operations.{Token};
 ghost use Rattle.decoder.specs.Before.{Numbered, tokensBefore};
-ghost use Rattle.decoder.specs.Ending.{candidateOf, ends, entry, fits, indexShape, kindAt, production, productionOf, rowAt, rows, rowsBefore, valueShape};
-ghost use Rattle.decoder.specs.Told.{ended};
+ghost use Rattle.decoder.specs.Ending.{candidateOf, ends, entry, fits, kindAt, production, rowAt, rowFound, rows, rowsBefore};
 
-// The row that the tokens end with, and how many tokens stand before its own ones.
-pub enum Ending {
-    Row { row: usize, start: usize },
-    Nothing,
-}
+// Kinds of tokens.
+const NUM: u8 = 1;
 
-// What stands before the own tokens of a value: nothing, an index, a value or two values.
-pub enum ValueShape {
-    Terminal,
-    Lookup,
-    Unary,
-    Binary,
-    NoValue,
-}
+pub const CURR_INP: u8 = 4;
 
-// And of an index: nothing, two indexes, or two indexes with ScriptNumToLe64 between them.
-pub enum IndexShape {
-    Terminal,
-    Plain,
-    Scaled,
-    NoIndex,
-}
+pub const SCRIPT_NUM_TO_LE64: u8 = 7;
 
-// The rows: values, indexes, what stands between two index operands, comparisons. The last number is no row's.
+const LE64_TO_SCRIPT_NUM: u8 = 8;
+
+const EQUAL: u8 = 14;
+
+const VERIFY: u8 = 15;
+
+const NIP: u8 = 16;
+
+// The mark of a Num of 1; every other mark is a kind.
+const NUM_ONE: u8 = 36;
+
+// The rows stand in runs: a constant, lookups, operations on one value, on two, oracle terminals; index terminals, index operations; what stands between
+// the operands of index mul and div; comparisons. Each run is named by its first row, and the number of rows is no row's.
+pub const LOOKUPS: usize = 1;
+
 pub const INPUT: usize = 1;
+
+pub const UNARIES: usize = 5;
+
+pub const BINARIES: usize = 7;
 
 const DIV: usize = 10;
 
+pub const ORACLES: usize = 15;
+
+pub const INDEXES: usize = 17;
+
+pub const INDEX_OPERATIONS: usize = 19;
+
+pub const INDEX_MUL: usize = 21;
+
 const INDEX_DIV: usize = 22;
+
+pub const BETWEEN: usize = 23;
 
 pub const COMPARISONS: usize = 24;
 
-const ROWS: usize = 29;
+pub const ROWS: usize = 29;
 
 // A row's command, the number of its own tokens, and their marks, the last token first. A mark is the token's kind, but 36 stands for a Num of 1.
 fn entry(row: usize) -> [u8; 15]
@@ -48,68 +58,39 @@ fn entry(row: usize) -> [u8; 15]
     ensures { λ r. ⌜ r ≡ entry (rowAt row) ⌝ }
 {
     match row {
-        // Const
-        0 => [16, 1, 2, 0, 0, 0, 0, 0, 0, 0, 0, 0, 0, 0, 0],
-        // Input
-        1 => [18, 4, 15, 14, 36, 22, 0, 0, 0, 0, 0, 0, 0, 0, 0],
-        // Output
-        2 => [19, 4, 15, 14, 36, 23, 0, 0, 0, 0, 0, 0, 0, 0, 0],
-        // InputIssue
-        3 => [20, 8, 16, 16, 15, 14, 36, 17, 17, 24, 0, 0, 0, 0, 0],
-        // InputReIssue
-        4 => [21, 8, 15, 14, 36, 17, 17, 17, 17, 24, 0, 0, 0, 0, 0],
-        // Invert
-        5 => [30, 1, 21, 0, 0, 0, 0, 0, 0, 0, 0, 0, 0, 0, 0],
-        // Negate
-        6 => [31, 4, 15, 14, 36, 13, 0, 0, 0, 0, 0, 0, 0, 0, 0],
-        // Add
-        7 => [22, 4, 15, 14, 36, 11, 0, 0, 0, 0, 0, 0, 0, 0, 0],
-        // Sub
-        8 => [23, 4, 15, 14, 36, 12, 0, 0, 0, 0, 0, 0, 0, 0, 0],
-        // Mul
-        9 => [24, 4, 15, 14, 36, 9, 0, 0, 0, 0, 0, 0, 0, 0, 0],
-        // Div
-        10 => [25, 5, 16, 15, 14, 36, 10, 0, 0, 0, 0, 0, 0, 0, 0],
-        // Mod
-        11 => [26, 5, 17, 15, 14, 36, 10, 0, 0, 0, 0, 0, 0, 0, 0],
-        // BitAnd
-        12 => [27, 1, 18, 0, 0, 0, 0, 0, 0, 0, 0, 0, 0, 0, 0],
-        // BitOr
-        13 => [28, 1, 19, 0, 0, 0, 0, 0, 0, 0, 0, 0, 0, 0, 0],
-        // Xor
-        14 => [29, 1, 20, 0, 0, 0, 0, 0, 0, 0, 0, 0, 0, 0, 0],
-        // PriceOracle1
-        15 => [32, 10, 27, 34, 3, 33, 32, 15, 28, 2, 26, 25, 0, 0, 0],
-        // PriceOracle1W
-        16 => [33, 13, 35, 27, 27, 34, 3, 33, 32, 15, 28, 2, 26, 25, 26],
-        // index constant
-        17 => [1, 1, 1, 0, 0, 0, 0, 0, 0, 0, 0, 0, 0, 0, 0],
-        // current index
-        18 => [2, 1, 4, 0, 0, 0, 0, 0, 0, 0, 0, 0, 0, 0, 0],
-        // index add
-        19 => [3, 1, 5, 0, 0, 0, 0, 0, 0, 0, 0, 0, 0, 0, 0],
-        // index sub
-        20 => [4, 1, 6, 0, 0, 0, 0, 0, 0, 0, 0, 0, 0, 0, 0],
-        // index mul
-        21 => [5, 6, 8, 15, 14, 36, 9, 7, 0, 0, 0, 0, 0, 0, 0],
-        // index div
-        22 => [6, 7, 8, 16, 15, 14, 36, 10, 7, 0, 0, 0, 0, 0, 0],
-        // between the operands of index mul and div
-        23 => [0, 1, 7, 0, 0, 0, 0, 0, 0, 0, 0, 0, 0, 0, 0],
-        // Eq
-        24 => [48, 1, 14, 0, 0, 0, 0, 0, 0, 0, 0, 0, 0, 0, 0],
-        // Lt
-        25 => [49, 1, 31, 0, 0, 0, 0, 0, 0, 0, 0, 0, 0, 0, 0],
-        // Leq
-        26 => [50, 1, 30, 0, 0, 0, 0, 0, 0, 0, 0, 0, 0, 0, 0],
-        // Gt
-        27 => [51, 1, 29, 0, 0, 0, 0, 0, 0, 0, 0, 0, 0, 0, 0],
-        // Geq
-        _ => [52, 1, 28, 0, 0, 0, 0, 0, 0, 0, 0, 0, 0, 0, 0],
+        0 => [16, 1, 2, 0, 0, 0, 0, 0, 0, 0, 0, 0, 0, 0, 0], // Const
+        1 => [18, 4, 15, 14, 36, 22, 0, 0, 0, 0, 0, 0, 0, 0, 0], // Input
+        2 => [19, 4, 15, 14, 36, 23, 0, 0, 0, 0, 0, 0, 0, 0, 0], // Output
+        3 => [20, 8, 16, 16, 15, 14, 36, 17, 17, 24, 0, 0, 0, 0, 0], // InputIssue
+        4 => [21, 8, 15, 14, 36, 17, 17, 17, 17, 24, 0, 0, 0, 0, 0], // InputReIssue
+        5 => [30, 1, 21, 0, 0, 0, 0, 0, 0, 0, 0, 0, 0, 0, 0], // Invert
+        6 => [31, 4, 15, 14, 36, 13, 0, 0, 0, 0, 0, 0, 0, 0, 0], // Negate
+        7 => [22, 4, 15, 14, 36, 11, 0, 0, 0, 0, 0, 0, 0, 0, 0], // Add
+        8 => [23, 4, 15, 14, 36, 12, 0, 0, 0, 0, 0, 0, 0, 0, 0], // Sub
+        9 => [24, 4, 15, 14, 36, 9, 0, 0, 0, 0, 0, 0, 0, 0, 0], // Mul
+        10 => [25, 5, 16, 15, 14, 36, 10, 0, 0, 0, 0, 0, 0, 0, 0], // Div
+        11 => [26, 5, 17, 15, 14, 36, 10, 0, 0, 0, 0, 0, 0, 0, 0], // Mod
+        12 => [27, 1, 18, 0, 0, 0, 0, 0, 0, 0, 0, 0, 0, 0, 0], // BitAnd
+        13 => [28, 1, 19, 0, 0, 0, 0, 0, 0, 0, 0, 0, 0, 0, 0], // BitOr
+        14 => [29, 1, 20, 0, 0, 0, 0, 0, 0, 0, 0, 0, 0, 0, 0], // Xor
+        15 => [32, 10, 27, 34, 3, 33, 32, 15, 28, 2, 26, 25, 0, 0, 0], // PriceOracle1
+        16 => [33, 13, 35, 27, 27, 34, 3, 33, 32, 15, 28, 2, 26, 25, 26], // PriceOracle1W
+        17 => [1, 1, 1, 0, 0, 0, 0, 0, 0, 0, 0, 0, 0, 0, 0], // index constant
+        18 => [2, 1, 4, 0, 0, 0, 0, 0, 0, 0, 0, 0, 0, 0, 0], // current index
+        19 => [3, 1, 5, 0, 0, 0, 0, 0, 0, 0, 0, 0, 0, 0, 0], // index add
+        20 => [4, 1, 6, 0, 0, 0, 0, 0, 0, 0, 0, 0, 0, 0, 0], // index sub
+        21 => [5, 6, 8, 15, 14, 36, 9, 7, 0, 0, 0, 0, 0, 0, 0], // index mul
+        22 => [6, 7, 8, 16, 15, 14, 36, 10, 7, 0, 0, 0, 0, 0, 0], // index div
+        23 => [0, 1, 7, 0, 0, 0, 0, 0, 0, 0, 0, 0, 0, 0, 0], // between the operands of index mul and div
+        24 => [48, 1, 14, 0, 0, 0, 0, 0, 0, 0, 0, 0, 0, 0, 0], // Eq
+        25 => [49, 1, 31, 0, 0, 0, 0, 0, 0, 0, 0, 0, 0, 0, 0], // Lt
+        26 => [50, 1, 30, 0, 0, 0, 0, 0, 0, 0, 0, 0, 0, 0, 0], // Leq
+        27 => [51, 1, 29, 0, 0, 0, 0, 0, 0, 0, 0, 0, 0, 0, 0], // Gt
+        _ => [52, 1, 28, 0, 0, 0, 0, 0, 0, 0, 0, 0, 0, 0, 0], // Geq
     }
 }
 
-fn wide(x: u8) -> usize
+fn u8_to_usize(x: u8) -> usize
     ensures { λ r. ⌜ r ≡ x ⌝ }
 {
     x as usize
@@ -123,53 +104,12 @@ pub fn command(row: usize) -> u8
     e[0]
 }
 
-fn width(row: usize) -> usize
+pub fn width(row: usize) -> usize
     requires { ⌜ row < 29 ⌝ }
     ensures { λ r. ⌜ r ≡ length (rowAt row .marks) ⌝ }
 {
     let e = entry(row);
-    wide(e[1])
-}
-
-pub fn value_shape(row: usize) -> ValueShape
-    requires { ⌜ row < 29 ⌝ }
-    ensures { λ r. ⌜ ((ts : List Token) → r ≡ valueShape (productionOf ts row)) ⌝ }
-{
-    if row < 1 {
-        return ValueShape::Terminal;
-    }
-    if row < 5 {
-        return ValueShape::Lookup;
-    }
-    if row < 7 {
-        return ValueShape::Unary;
-    }
-    if row < 15 {
-        return ValueShape::Binary;
-    }
-    if row < 17 {
-        return ValueShape::Terminal;
-    }
-    ValueShape::NoValue
-}
-
-pub fn index_shape(row: usize) -> IndexShape
-    requires { ⌜ row < 29 ⌝ }
-    ensures { λ r. ⌜ ((ts : List Token) → r ≡ indexShape (productionOf ts row)) ⌝ }
-{
-    if row < 17 {
-        return IndexShape::NoIndex;
-    }
-    if row < 19 {
-        return IndexShape::Terminal;
-    }
-    if row < 21 {
-        return IndexShape::Plain;
-    }
-    if row < 23 {
-        return IndexShape::Scaled;
-    }
-    IndexShape::NoIndex
+    u8_to_usize(e[1])
 }
 
 // The first row whose last token has this kind, or the number of rows.
@@ -276,16 +216,16 @@ fn candidate(kinds: &[u8], end: usize) -> usize
     ensures { λ r. ⌜ ((numbers places keys : List ℕ) → r ≡ candidateOf (tokensBefore (now (kinds .entry)) numbers places keys end)) ⌝ }
 {
     let last = kind_before(kinds, end, 0);
-    if last == 15 {
+    if last == VERIFY {
         return by_fourth(kind_before(kinds, end, 3));
     }
-    if last == 8 {
-        if kind_before(kinds, end, 1) == 16 {
+    if last == LE64_TO_SCRIPT_NUM {
+        if kind_before(kinds, end, 1) == NIP {
             return INDEX_DIV;
         }
     }
-    if last == 16 {
-        if kind_before(kinds, end, 1) == 15 {
+    if last == NIP {
+        if kind_before(kinds, end, 1) == VERIFY {
             return DIV;
         }
     }
@@ -296,8 +236,8 @@ fn candidate(kinds: &[u8], end: usize) -> usize
 fn fits(mark: u8, kind: u8, number: u64) -> bool
     ensures { λ r. ⌜ r ≡ fits mark kind number ⌝ }
 {
-    if mark == 36 {
-        if kind == 1 {
+    if mark == NUM_ONE {
+        if kind == NUM {
             return number == 1;
         }
         return false;
@@ -313,7 +253,7 @@ fn ends(kinds: &[u8], numbers: &[u64], end: usize, row: usize) -> bool
         r ≡ ends (rowAt row .marks) (tokensBefore (now (kinds .entry)) (now (numbers .entry)) places keys end)) ⌝ }
 {
     let e = entry(row);
-    let n = wide(e[1]);
+    let n = u8_to_usize(e[1]);
     let mut last = end;
     let mut i = 0;
     while i < n {
@@ -330,7 +270,7 @@ fn ends(kinds: &[u8], numbers: &[u64], end: usize, row: usize) -> bool
 }
 
 // Whether a Num of 1 and Equal stand before the last one of the tokens before `end`.
-fn checked(kinds: &[u8], numbers: &[u64], end: usize) -> bool
+fn ends_with_one_equal(kinds: &[u8], numbers: &[u64], end: usize) -> bool
     requires { ⌜ (length (now kinds) ≤ length (now numbers)) × (end ≤ length (now kinds)) ⌝ }
     ensures { λ r. ⌜ ((places keys : List ℕ) →
         r ≡ ends (14 ∷ 36 ∷ []) (tokensBefore (now (kinds .entry)) (now (numbers .entry)) places keys (end - 1))) ⌝ }
@@ -338,43 +278,35 @@ fn checked(kinds: &[u8], numbers: &[u64], end: usize) -> bool
     if end < 3 {
         return false;
     }
-    if kinds[end - 2] != 14 {
+    if kinds[end - 2] != EQUAL {
         return false;
     }
-    fits(36, kinds[end - 3], numbers[end - 3])
+    fits(NUM_ONE, kinds[end - 3], numbers[end - 3])
 }
 
-// The row that the tokens before `end` end with. The kind of the last one tells a row of one token; rows of four tokens differ in the first of them alone.
-pub fn production(kinds: &[u8], numbers: &[u64], end: usize) -> Ending
+// The row that the tokens before `end` end with, or the number of rows. The kind of the last one tells a row of one token; rows of four tokens differ in the
+// first of them alone.
+pub fn production(kinds: &[u8], numbers: &[u64], end: usize) -> usize
     requires { ⌜ Numbered (now kinds) (now numbers) end ⌝ }
     ensures { λ r. ⌜ ((places keys : List ℕ) →
-        r ≡ ended (production (tokensBefore (now (kinds .entry)) (now (numbers .entry)) places keys end))) ⌝ }
+        r ≡ rowFound (production (tokensBefore (now (kinds .entry)) (now (numbers .entry)) places keys end))) ⌝ }
 {
     let row = candidate(kinds, end);
     if ROWS <= row {
-        return Ending::Nothing;
+        return ROWS;
     }
     let n = width(row);
     if n == 1 {
-        return Ending::Row {
-            row,
-            start: end - 1,
-        };
+        return row;
     }
     if n == 4 {
-        if !checked(kinds, numbers, end) {
-            return Ending::Nothing;
+        if ends_with_one_equal(kinds, numbers, end) {
+            return row;
         }
-        return Ending::Row {
-            row,
-            start: end - 4,
-        };
+        return ROWS;
     }
-    if !ends(kinds, numbers, end, row) {
-        return Ending::Nothing;
+    if ends(kinds, numbers, end, row) {
+        return row;
     }
-    Ending::Row {
-        row,
-        start: end - n,
-    }
+    ROWS
 }

@@ -1,27 +1,47 @@
 // `from_tokens` of the source: the readers call themselves on the tokens before what they have matched.
+use crate::productions::BETWEEN;
+use crate::productions::BINARIES;
 use crate::productions::COMPARISONS;
-use crate::productions::Ending;
-use crate::productions::IndexShape;
-use crate::productions::ValueShape;
-use crate::productions::index_shape;
+use crate::productions::INDEX_MUL;
+use crate::productions::INDEX_OPERATIONS;
+use crate::productions::INDEXES;
+use crate::productions::LOOKUPS;
+use crate::productions::ORACLES;
+use crate::productions::ROWS;
+use crate::productions::SCRIPT_NUM_TO_LE64;
+use crate::productions::UNARIES;
 use crate::productions::kind_before;
 use crate::productions::production;
-use crate::productions::value_shape;
+use crate::productions::width;
 ghost use mathlib.Core.Path.{_≡_};
 ghost use mathlib.Core.List.{List};
-ghost use Prim.Native.Nat.{ℕ};
+ghost use Prim.Native.Nat.{ℕ, _≤_};
 ghost use lib.ListN.{length};
 ghost use Rattle.semantics.specs.FromTokens.{exprFromTokens, fromTokens, idxFromTokens};
 ghost use Rattle.decoder.specs.Before.{Numbered, tokensBefore};
-ghost use Rattle.decoder.specs.Told.{told};
-
-// What stands before the right operand of an index mul or div.
-const SCRIPT_NUM_TO_LE64: u8 = 7;
+ghost use Rattle.decoder.specs.Ending.{kindAt};
+ghost use Rattle.decoder.specs.Told.{leftEnd, told};
 
 // Where what was read begins.
 pub enum Reading {
     Read(usize),
     Nothing,
+}
+
+// Where the left operand of an index operation ends, whose right one begins at `middle`. ScriptNumToLe64 stands between the operands of mul and div; where it
+// is missing, the answer is 0, before which nothing can be read.
+fn left_end(kinds: &[u8], row: usize, middle: usize) -> usize
+    requires { ⌜ middle ≤ length (now kinds) ⌝ }
+    ensures { λ r. ⌜ ((numbers places keys : List ℕ) →
+        r ≡ leftEnd row middle (kindAt (tokensBefore (now (kinds .entry)) numbers places keys middle) 0)) ⌝ }
+{
+    if row < INDEX_MUL {
+        return middle;
+    }
+    if kind_before(kinds, middle, 0) != SCRIPT_NUM_TO_LE64 {
+        return 0;
+    }
+    middle - 1
 }
 
 // The index expression that the tokens before `end` end with.
@@ -30,28 +50,21 @@ fn read_index(kinds: &[u8], numbers: &[u64], end: usize) -> Reading
     ensures { λ r. ⌜ ((places keys : List ℕ) →
         r ≡ told (idxFromTokens (tokensBefore (now (kinds .entry)) (now (numbers .entry)) places keys end))) ⌝ }
 {
-    let Ending::Row { row, start } = production(kinds, numbers, end) else {
+    let row = production(kinds, numbers, end);
+    if row < INDEXES {
+        return Reading::Nothing;
+    }
+    if BETWEEN <= row {
+        return Reading::Nothing;
+    }
+    let start = end - width(row);
+    if row < INDEX_OPERATIONS {
+        return Reading::Read(start);
+    }
+    let Reading::Read(middle) = read_index(kinds, numbers, start) else {
         return Reading::Nothing;
     };
-    match index_shape(row) {
-        IndexShape::Terminal => return Reading::Read(start),
-        IndexShape::Plain => {
-            let Reading::Read(middle) = read_index(kinds, numbers, start) else {
-                return Reading::Nothing;
-            };
-            return read_index(kinds, numbers, middle);
-        }
-        IndexShape::Scaled => {
-            let Reading::Read(middle) = read_index(kinds, numbers, start) else {
-                return Reading::Nothing;
-            };
-            if kind_before(kinds, middle, 0) != SCRIPT_NUM_TO_LE64 {
-                return Reading::Nothing;
-            }
-            return read_index(kinds, numbers, middle - 1);
-        }
-        IndexShape::NoIndex => return Reading::Nothing,
-    }
+    read_index(kinds, numbers, left_end(kinds, row, middle))
 }
 
 // The value expression that the tokens before `end` end with.
@@ -60,21 +73,27 @@ fn read_value(kinds: &[u8], numbers: &[u64], end: usize) -> Reading
     ensures { λ r. ⌜ ((places keys : List ℕ) →
         r ≡ told (exprFromTokens (tokensBefore (now (kinds .entry)) (now (numbers .entry)) places keys end))) ⌝ }
 {
-    let Ending::Row { row, start } = production(kinds, numbers, end) else {
+    let row = production(kinds, numbers, end);
+    if INDEXES <= row {
+        return Reading::Nothing;
+    }
+    let start = end - width(row);
+    if row < LOOKUPS {
+        return Reading::Read(start);
+    }
+    if row < UNARIES {
+        return read_index(kinds, numbers, start);
+    }
+    if row < BINARIES {
+        return read_value(kinds, numbers, start);
+    }
+    if ORACLES <= row {
+        return Reading::Read(start);
+    }
+    let Reading::Read(middle) = read_value(kinds, numbers, start) else {
         return Reading::Nothing;
     };
-    match value_shape(row) {
-        ValueShape::Terminal => return Reading::Read(start),
-        ValueShape::Lookup => return read_index(kinds, numbers, start),
-        ValueShape::Unary => return read_value(kinds, numbers, start),
-        ValueShape::Binary => {
-            let Reading::Read(middle) = read_value(kinds, numbers, start) else {
-                return Reading::Nothing;
-            };
-            return read_value(kinds, numbers, middle);
-        }
-        ValueShape::NoValue => return Reading::Nothing,
-    }
+    read_value(kinds, numbers, middle)
 }
 
 // The condition that the tokens end with.
@@ -83,13 +102,14 @@ pub fn read_condition(kinds: &[u8], numbers: &[u64]) -> Reading
     ensures { λ r. ⌜ ((places keys : List ℕ) →
         r ≡ told (fromTokens (tokensBefore (now (kinds .entry)) (now (numbers .entry)) places keys (length (now (kinds .entry)))))) ⌝ }
 {
-    let Ending::Row { row, start } = production(kinds, numbers, kinds.len()) else {
-        return Reading::Nothing;
-    };
+    let row = production(kinds, numbers, kinds.len());
     if row < COMPARISONS {
         return Reading::Nothing;
     }
-    let Reading::Read(middle) = read_value(kinds, numbers, start) else {
+    if ROWS <= row {
+        return Reading::Nothing;
+    }
+    let Reading::Read(middle) = read_value(kinds, numbers, kinds.len() - width(row)) else {
         return Reading::Nothing;
     };
     read_value(kinds, numbers, middle)

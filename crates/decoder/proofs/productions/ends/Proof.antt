@@ -36,7 +36,7 @@ mark a h = ap (λ (l : List ℕ). getD l (a .loop .i + 2) 0) (a .before .before 
 
 loop-holds : tie.Need-loop-holds Inv-loop μ-loop
 loop-holds c =
-    (omega arith, omega arith, c .wide .ensures ∙ ap (λ (l : List ℕ). getD l 1 0) (c .before .entry .ensures), λ places keys. refl)
+    (omega arith, omega arith, c .u8-to-usize .ensures ∙ ap (λ (l : List ℕ). getD l 1 0) (c .before .entry .ensures), λ places keys. refl)
 
 returns : tie.Need-returns Inv-loop μ-loop
 returns c places keys =

@@ -8,7 +8,7 @@ use Rattle.decoder.proofs.productions.width.Statement.{statement}
 use Rattle.decoder.proofs.productions.width.Tie as tie
 
 returns : tie.Need-returns
-returns c = c .wide .ensures ∙ ap (λ (l : List ℕ). getD l 1 0) (c .before .entry .ensures)
+returns c = c .u8-to-usize .ensures ∙ ap (λ (l : List ℕ). getD l 1 0) (c .before .entry .ensures)
 
 pub width-spec : {M : Type 1} → statement M
 width-spec =
