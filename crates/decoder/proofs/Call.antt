@@ -25,14 +25,15 @@ use Rattle.semantics.proofs.Find.{reader-picked, reader-sound}
 use Rattle.semantics.proofs.FromTokens.{arith-reader}
 use Rattle.semantics.proofs.Meaning.{call-decodes, call-unambiguous, decoded-fits}
 use Rattle.semantics.proofs.Records.{length-tokens, tokens-sound}
-use Rattle.decoder.specs.Before.{before}
-use Rattle.decoder.specs.Told.{Ready, told}
-use Rattle.decoder.specs.Pieces.{joined, judged, keeps, pieces}
-use Rattle.decoder.specs.declared.emission.Judged.{Judged}
-use Rattle.decoder.specs.declared.readers.Reading as R
-use Rattle.decoder.proofs.Tokens.{length-before, reverse-tokens}
-use Rattle.decoder.proofs.Trees.{arith-joined, arithPieces, form-pieces}
-use Rattle.decoder.proofs.Rules.{keeps-rule, kept}
+use Rattle.productions.specs.Before.{before}
+use Rattle.readers.specs.Told.{told}
+use Rattle.decoder.specs.Sound.{Ready}
+use Rattle.emission.specs.Pieces.{joined, judged, keeps, pieces}
+use Rattle.emission.specs.declared.Judged.{Judged}
+use Rattle.readers.specs.declared.Reading as R
+use Rattle.productions.proofs.Tokens.{length-before, reverse-tokens}
+use Rattle.emission.proofs.Trees.{arith-joined, arithPieces, form-pieces}
+use Rattle.emission.proofs.Rules.{keeps-rule, kept}
 
 -- the pieces of the tokens from `start` on
 abbrev pub allPieces : Records → ℕ → List (List ℕ)

@@ -11,9 +11,8 @@ use lib.Dec.{eqb, leb, ltb}
 use lib.ListN.{length, getD, List·getD-eq-default}
 use Rattle.semantics.specs.Records.{Records, soundAt, unsound, unsoundFrom}
 use Rattle.semantics.proofs.Tests.{and-true}
-use Rattle.decoder.specs.Before.{Numbered, Whole}
-use Rattle.decoder.specs.Sound.{fieldsSound}
-use Rattle.decoder.specs.Told.{scanned}
+use Rattle.productions.specs.Before.{Numbered, Whole}
+use Rattle.decoder.specs.Sound.{fieldsSound, scanned}
 use Rattle.decoder.specs.declared.soundness.Scanned.{Scanned}
 
 -- a record is sound if its fields are there and sound

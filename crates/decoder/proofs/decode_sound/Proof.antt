@@ -7,10 +7,10 @@ use Rattle.slices.specs.Bytes.{All, Bytes}
 use Rattle.slices.proofs.Bytes.{all-of}
 use Rattle.semantics.specs.FromTokens.{fromTokens}
 use Rattle.semantics.specs.Records.{Records, recordsOf, tokenAt}
-use Rattle.decoder.specs.Before.{before}
-use Rattle.decoder.specs.Told.{told}
-use Rattle.decoder.specs.Pieces.{judged}
-use Rattle.decoder.specs.declared.readers.Reading.{Reading}
+use Rattle.productions.specs.Before.{before}
+use Rattle.readers.specs.Told.{told}
+use Rattle.emission.specs.Pieces.{judged}
+use Rattle.readers.specs.declared.Reading.{Reading}
 use Rattle.decoder.proofs.Scans.{ready-numbered, ready-whole}
 use Rattle.decoder.proofs.Call.{allPieces, code-accepted, code-room, read-none, rule-broken, turned-down}
 use Rattle.decoder.proofs.decode_sound.Statement.{statement}
