@@ -20,6 +20,7 @@ use Rattle.semantics.specs.declared.UnOp.{UnOp}
 use Rattle.semantics.specs.Code.{exprCode, idxCode}
 use Rattle.semantics.specs.Token.{exprForm}
 use Rattle.semantics.specs.FromTokens.{Head, IdxHead, headForm, idxHeadForm, keyAt, numberAt}
+use Rattle.semantics.proofs.Machine.{oracle-length}
 use Rattle.semantics.specs.Records.{Records, keyOf, tokenAt, tokenOf}
 use Rattle.productions.specs.Before.{Whole, before}
 use Rattle.productions.specs.Ending.{Production, Row, blank, ending, kindAt, ownCode, production, productionOf, productions, rowAt, rowFound, rows}
@@ -229,9 +230,6 @@ command-placed r c first = go (eqb c 0) refl (eqb c 1 || eqb c 16) (eqb c 32) (e
     go false p false false true = refl
     go false p false false false = refl
 
-oracle-size : (key : List ℕ) (time : ℕ) → length key ≡ 32 → suc (length (key ++ littleEndian 8 time)) ≡ 41
-oracle-size key time e = omega (arith, length-append key (littleEndian 8 time), length-littleEndian 8 time)
-
 module _ (r : Records) (end : ℕ) (p : Piece) (met : Met r end p) (few : end ≤ length (r .kinds)) (w : Whole (r .kinds) (r .places) (r .keys)) where
   key-size : (i : ℕ) → i < end → getD (r .kinds) i 0 ≡ 3 → length (keyOf r i) ≡ 32
   key-size i h e = length-take-le 32 (drop (getD (r .places) i 0) (r .keys)) (rw length-drop (omega (arith, w .whole i (omega arith) e)))
@@ -248,10 +246,10 @@ module _ (r : Records) (end : ℕ) (p : Piece) (met : Met r end p) (few : end �
       go false true d x e y = ap suc (length-littleEndian 8 (getD (r .numbers) (p .first) 0))
       go false false true x e y =
           let h = met .oracle (eqb-true (p .command) 32 x) in
-          oracle-size (keyOf r (p .first + 7)) (getD (r .numbers) (p .first + 2) 0) (key-size (p .first + 7) (h .0) (h .1))
+          ap suc (oracle-length (keyOf r (p .first + 7)) (getD (r .numbers) (p .first + 2) 0) (key-size (p .first + 7) (h .0) (h .1)))
       go false false false x true y =
           let h = met .oracleW (eqb-true (p .command) 33 y) in
-          oracle-size (keyOf r (p .first + 8)) (getD (r .numbers) (p .first + 3) 0) (key-size (p .first + 8) (h .0) (h .1))
+          ap suc (oracle-length (keyOf r (p .first + 8)) (getD (r .numbers) (p .first + 3) 0) (key-size (p .first + 8) (h .0) (h .1)))
       go false false false x false y = refl
 
   -- so it can be written

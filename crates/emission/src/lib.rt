@@ -16,7 +16,7 @@ ghost use Rattle.semantics.specs.Code.{maxTokens};
 ghost use Rattle.semantics.specs.Records.{recordsOf};
 ghost use Rattle.productions.specs.Before.{Numbered, Whole, tokensBefore};
 ghost use Rattle.semantics.specs.Evaluate.{over};
-ghost use Rattle.emission.specs.Pieces.{Met, Placed, joined, judged, pieces, placedPiece, put, sizeOf};
+ghost use Rattle.emission.specs.Pieces.{Met, Placed, joined, judged, pieces, placedPiece, priceOracle1, put, sizeOf};
 
 // The kind of the current index, and the commands that are told apart by number.
 const CURR_INP: u8 = 4;
@@ -44,7 +44,7 @@ pub enum Judged {
 }
 
 // The piece that the tokens before `end` end with; `Input` of the current index is `CurrInputIdx`.
-fn met(kinds: &[u8], numbers: &[u64], end: usize) -> Piece
+fn last_piece(kinds: &[u8], numbers: &[u64], end: usize) -> Piece
     requires { ⌜ Numbered (now kinds) (now numbers) end ⌝ }
     requires { ⌜ 0 < end ⌝ }
     ensures { λ r. ⌜ ((places keys : List ℕ) → Met (recordsOf (now (kinds .entry)) (now (numbers .entry)) places keys) end r) ⌝ }
@@ -71,7 +71,7 @@ fn met(kinds: &[u8], numbers: &[u64], end: usize) -> Piece
     }
 }
 
-// The number of bytes of a piece.
+// The number of bytes of a piece: its command, and an operand of eight or forty bytes.
 fn size(command: u8) -> usize
     ensures { λ r. ⌜ r ≡ sizeOf command ⌝ }
 {
@@ -93,9 +93,9 @@ fn size(command: u8) -> usize
     1
 }
 
-// Whether 32 is among the later commands, when the first of them gets one before it.
-fn is_later(later: bool, first: u8) -> bool
-    ensures { λ r. ⌜ r ≡ (eqb first 32 || later) ⌝ }
+// Whether PriceOracle1 is among the later commands, once another command stands before the first.
+fn among_later(later: bool, first: u8) -> bool
+    ensures { λ r. ⌜ r ≡ (eqb first priceOracle1 || later) ⌝ }
 {
     if first == PRICE_ORACLE_1 {
         return true;
@@ -103,7 +103,7 @@ fn is_later(later: bool, first: u8) -> bool
     later
 }
 
-// The length of the code of the tokens from `start` on, if the first command is not 33, and 32 is not among the later ones.
+// The length of the code of the tokens from `start` on, if the first command is not PriceOracle1W, and PriceOracle1 is not among the later ones.
 pub fn judge(kinds: &[u8], numbers: &[u64], start: usize) -> Judged
     requires { ⌜ Numbered (now kinds) (now numbers) (length (now kinds)) ⌝ }
     requires { ⌜ length (now kinds) ≤ maxTokens ⌝ }
@@ -116,8 +116,8 @@ pub fn judge(kinds: &[u8], numbers: &[u64], start: usize) -> Judged
     let mut first: u8 = 0;
     let mut later = false;
     while start < end {
-        let p = met(kinds, numbers, end);
-        later = is_later(later, first);
+        let p = last_piece(kinds, numbers, end);
+        later = among_later(later, first);
         first = p.command;
         bytes += size(p.command);
         end = p.first;
@@ -131,6 +131,7 @@ pub fn judge(kinds: &[u8], numbers: &[u64], start: usize) -> Judged
     Judged::Kept(bytes)
 }
 
+// A place in the key bytes as an index.
 fn u32_to_usize(x: u32) -> usize
     ensures { λ r. ⌜ r ≡ x ⌝ }
 {
@@ -219,7 +220,7 @@ pub fn emit(
     let mut end = kinds.len();
     let mut at = bytes;
     while start < end {
-        let p = met(kinds, numbers, end);
+        let p = last_piece(kinds, numbers, end);
         put_piece(numbers, places, keys, p, code, at);
         at -= size(p.command);
         end = p.first;

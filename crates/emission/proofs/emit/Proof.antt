@@ -29,28 +29,28 @@ loop-holds c =
     let s = c .before .before .before .before .before in
     (omega arith, s .pre .1 .1 .0, refl, emitting-start (records s) (s .args .start) (s .args .code .now) (s .args .bytes) (s .pre .1 .1 .1))
 
-met-requires : tie.Need-met-requires Inv-loop μ-loop
-met-requires c κs =
+last-piece-requires : tie.Need-last-piece-requires Inv-loop μ-loop
+last-piece-requires c κs =
     let a = c .before in
     let p = start₁ a .pre .0 in
     (record { known = p .known; paired = p .paired; within = a .loop .inv .0 }, omega arith)
 
 -- the piece that is met is a piece of these records
-met-is : (c : tie.After-met Inv-loop μ-loop) → let a = c .before .before in Met (records (start₁ a)) (a .loop .end) (c .met .result)
-met-is c = let s = start₁ (c .before .before) in c .met .ensures (s .args .places .now) (s .args .keys .now)
+met-is : (c : tie.After-last-piece Inv-loop μ-loop) → let a = c .before .before in Met (records (start₁ a)) (a .loop .end) (c .last-piece .result)
+met-is c = let s = start₁ (c .before .before) in c .last-piece .ensures (s .args .places .now) (s .args .keys .now)
 
-enough : (c : tie.After-met Inv-loop μ-loop) → let a = c .before .before in sizeOf (c .met .result .command) ≤ a .loop .at
+enough : (c : tie.After-last-piece Inv-loop μ-loop) → let a = c .before .before in sizeOf (c .last-piece .result .command) ≤ a .loop .at
 enough c =
     let a = c .before .before in
     room (records (start₁ a)) (start₁ a .args .start) (start₁ a .args .code .now) (a .loop .end) (a .loop .at) (a .loop .code) (a .loop .inv .3) (a .loop .inv .0) (start₁ a .pre .1 .0)
-    (c .before .loop-test .taken) (c .met .result) (met-is c)
+    (c .before .loop-test .taken) (c .last-piece .result) (met-is c)
 
 put-piece-requires : tie.Need-put-piece-requires Inv-loop μ-loop
 put-piece-requires c κs =
     let m = c .before in
     let a = m .before .before in
     let s = start₁ a in (
-      met-placed (records s) (a .loop .end) (m .met .result) (met-is m) (a .loop .inv .0) (s .pre .1 .0) (s .pre .0 .paired),
+      met-placed (records s) (a .loop .end) (m .last-piece .result) (met-is m) (a .loop .inv .0) (s .pre .1 .0) (s .pre .0 .paired),
       (enough m, omega (arith, a .loop .inv)),
     )
 
@@ -66,9 +66,9 @@ loop-again c =
       omega (arith, met-is m .falls, a .loop .inv),
       omega (arith, a .loop .inv),
       c .before .before .before .put-piece .kept .1 .1 .1 .1 .0 ∙ a .loop .inv .2,
-      subst⁻¹ (λ (n : ℕ). Emitting (records s) (s .args .start) (s .args .code .now) (m .met .result .first) (a .loop .at - n) after) (c .size .ensures)
+      subst⁻¹ (λ (n : ℕ). Emitting (records s) (s .args .start) (s .args .code .now) (m .last-piece .result .first) (a .loop .at - n) after) (c .size .ensures)
           (emitting-next (records s) (s .args .start) (s .args .code .now) (a .loop .end) (a .loop .at) (a .loop .code) (a .loop .inv .3) (a .loop .inv .0) (s .pre .1 .0)
-          (m .before .loop-test .taken) (m .met .result) (met-is m) (a .loop .inv .1) after (c .before .before .before .put-piece .ensures)),
+          (m .before .loop-test .taken) (m .last-piece .result) (met-is m) (a .loop .inv .1) after (c .before .before .before .put-piece .ensures)),
     )
 
 returns : tie.Need-returns Inv-loop μ-loop
@@ -84,7 +84,7 @@ emit-spec =
     Inv-loop
     μ-loop
     loop-holds
-    met-requires
+    last-piece-requires
     put-piece-requires
     (λ c κs. search needs)
     sub-at

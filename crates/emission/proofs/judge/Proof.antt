@@ -31,8 +31,8 @@ loop-holds c =
     let s = c .before .before in
     (omega arith, omega arith, λ places keys whole. judging-start (recordsOf (s .args .kinds .now) (s .args .numbers .now) places keys) (s .args .start))
 
-met-requires : tie.Need-met-requires Inv-loop μ-loop
-met-requires c κs =
+last-piece-requires : tie.Need-last-piece-requires Inv-loop μ-loop
+last-piece-requires c κs =
     let a = c .before in
     let p = start₁ a .pre .0 in
     (record { known = p .known; paired = p .paired; within = a .loop .inv .0 }, omega arith)
@@ -40,21 +40,21 @@ met-requires c κs =
 loop-again : tie.Need-loop-again Inv-loop μ-loop
 loop-again c =
     let a = c .before .before .before .before in
-    let m = c .before .before .met in
+    let m = c .before .before .last-piece in
     let low = m .ensures [] [] .falls in
     let few = size-most (m .result .command) in
     let grown : a .loop .bytes + c .size .result + 41 * m .result .first ≤ 41 * length (start₁ a .args .kinds .now) = omega (arith, c .size .ensures) in (
       omega arith,
       grown,
-      λ places keys whole. subst⁻¹ (λ (n : ℕ). Judging (records a places keys) (start₁ a .args .start) (m .result .first) (a .loop .bytes + n) (m .result .command) (c .before .is-later .result)) (c .size .ensures)
+      λ places keys whole. subst⁻¹ (λ (n : ℕ). Judging (records a places keys) (start₁ a .args .start) (m .result .first) (a .loop .bytes + n) (m .result .command) (c .before .among-later .result)) (c .size .ensures)
           (judging-next (records a places keys) (start₁ a .args .start) (a .loop .end) (a .loop .bytes) (a .loop .first) (a .loop .later) (a .loop .inv .2 places keys whole) (a .loop .inv .0) whole
-          (c .before .before .before .loop-test .taken) (m .result) (m .ensures places keys) (c .before .is-later .result) (c .before .is-later .ensures)),
+          (c .before .before .before .loop-test .taken) (m .result) (m .ensures places keys) (c .before .among-later .result) (c .before .among-later .ensures)),
     )
 
 add-bytes : tie.Need-add-bytes Inv-loop μ-loop
 add-bytes c =
     let a = c .before .before .before .before in
-    let few = size-most (c .before .before .met .result .command) in
+    let few = size-most (c .before .before .last-piece .result .command) in
     omega (arith, c .size .ensures, start₁ a .pre .1, a .loop .inv)
 
 returns : tie.Need-returns Inv-loop μ-loop
@@ -79,11 +79,11 @@ judge-spec =
     Inv-loop
     μ-loop
     loop-holds
-    met-requires
+    last-piece-requires
     (λ c κs. search needs)
     (λ c κs. search needs)
     add-bytes
-    (λ c. c .before .before .met .ensures [] [] .falls)
+    (λ c. c .before .before .last-piece .ensures [] [] .falls)
     loop-again
     returns
     returns-2

@@ -8,8 +8,8 @@ use native.Mathlib.Omega.{arith}
 use Rattle.semantics.specs.Records.{Records, recordsOf, tokenAt}
 use Rattle.productions.proofs.Places.{At, row-found}
 use Rattle.emission.proofs.Mets.{met-none, met-row, met-twin, twin-some}
-use Rattle.emission.proofs.met.Statement.{statement}
-use Rattle.emission.proofs.met.Tie as tie
+use Rattle.emission.proofs.last_piece.Statement.{statement}
+use Rattle.emission.proofs.last_piece.Tie as tie
 
 abbrev records : tie.Start → List ℕ → List ℕ → Records
 records s places keys = recordsOf (s .args .kinds .now) (s .args .numbers .now) places keys
@@ -46,8 +46,8 @@ returns-3 c places keys =
     (⊎-elim (λ x e f. x .2 .left (x .1 .ensures (start w .args .numbers .now) places keys ∙ f)) (λ x e f. x .left e) (c .before .if2 .came))
     _ (c .command .ensures)
 
-pub met-spec : {M : Type 1} → statement M
-met-spec =
+pub last-piece-spec : {M : Type 1} → statement M
+last-piece-spec =
     tie.close
     (tie.spec
     (λ c κs. search needs)
