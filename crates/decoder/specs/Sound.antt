@@ -7,12 +7,12 @@ use lib.ListN.{length}
 use Rattle.semantics.specs.Code.{maxCode, maxTokens}
 use Rattle.semantics.specs.Records.{Records, unsound}
 use Rattle.decoder.specs.declared.soundness.Scanned.{Scanned}
-use mathlib.Core.Bool.{Bool, true, false, cond}
+use mathlib.Core.Bool.{Bool, _&&_, _||_, not}
 use lib.Dec.{eqb, leb, ltb}
 
 abbrev pub fieldsSound : ℕ → ℕ → ℕ → ℕ → Bool
 fieldsSound kind number place keys =
-    cond (ltb 35 kind) false (cond (eqb kind 1) (ltb number (2 ^ 32)) (cond (eqb kind 3) (leb (place + 32) keys) true))
+    leb kind 35 && (not (eqb kind 1) || ltb number (2 ^ 32)) && (not (eqb kind 3) || leb (place + 32) keys)
 
 -- the first unsound record
 abbrev pub scanned : Option ℕ → Scanned
