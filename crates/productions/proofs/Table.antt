@@ -14,7 +14,8 @@ use Rattle.semantics.specs.Operations.{Token}
 use Rattle.semantics.specs.Token.{exprForm}
 use Rattle.semantics.specs.FromTokens.{headForm, idxHeadForm}
 use Rattle.semantics.proofs.Tests.{and-true}
-use Rattle.productions.specs.Ending.{IndexShape, Production, Row, ValueShape, blank, ending, entry, indexShape, productionOf, productions, rowAt, rows, rowsBefore, valueShape}
+use Rattle.productions.specs.Ending.{Production, Row, blank, ending, entry, productionOf, productions, rowAt, rows, rowsBefore}
+use Rattle.productions.proofs.Shapes.{IndexShape, ValueShape, indexShape, valueShape}
 use Rattle.productions.proofs.Endings.{isComparison}
 
 -- a test that every element of a list passes

@@ -20,7 +20,7 @@ ghost use lib.ListN.{length};
 ghost use Rattle.semantics.specs.FromTokens.{exprFromTokens, fromTokens, idxFromTokens};
 ghost use Rattle.productions.specs.Before.{Numbered, tokensBefore};
 ghost use Rattle.productions.specs.Ending.{kindAt};
-ghost use Rattle.readers.specs.Told.{leftEnd, told};
+ghost use Rattle.readers.specs.Readings.{leftEnd, readingOf};
 
 // Where what was read begins.
 pub enum Reading {
@@ -48,7 +48,7 @@ fn left_end(kinds: &[u8], row: usize, middle: usize) -> usize
 fn read_index(kinds: &[u8], numbers: &[u64], end: usize) -> Reading
     requires { ⌜ Numbered (now kinds) (now numbers) end ⌝ }
     ensures { λ r. ⌜ ((places keys : List ℕ) →
-        r ≡ told (idxFromTokens (tokensBefore (now (kinds .entry)) (now (numbers .entry)) places keys end))) ⌝ }
+        r ≡ readingOf (idxFromTokens (tokensBefore (now (kinds .entry)) (now (numbers .entry)) places keys end))) ⌝ }
 {
     let row = production(kinds, numbers, end);
     if row < INDEXES {
@@ -71,7 +71,7 @@ fn read_index(kinds: &[u8], numbers: &[u64], end: usize) -> Reading
 fn read_value(kinds: &[u8], numbers: &[u64], end: usize) -> Reading
     requires { ⌜ Numbered (now kinds) (now numbers) end ⌝ }
     ensures { λ r. ⌜ ((places keys : List ℕ) →
-        r ≡ told (exprFromTokens (tokensBefore (now (kinds .entry)) (now (numbers .entry)) places keys end))) ⌝ }
+        r ≡ readingOf (exprFromTokens (tokensBefore (now (kinds .entry)) (now (numbers .entry)) places keys end))) ⌝ }
 {
     let row = production(kinds, numbers, end);
     if INDEXES <= row {
@@ -100,7 +100,7 @@ fn read_value(kinds: &[u8], numbers: &[u64], end: usize) -> Reading
 pub fn read_condition(kinds: &[u8], numbers: &[u64]) -> Reading
     requires { ⌜ Numbered (now kinds) (now numbers) (length (now kinds)) ⌝ }
     ensures { λ r. ⌜ ((places keys : List ℕ) →
-        r ≡ told (fromTokens (tokensBefore (now (kinds .entry)) (now (numbers .entry)) places keys (length (now (kinds .entry)))))) ⌝ }
+        r ≡ readingOf (fromTokens (tokensBefore (now (kinds .entry)) (now (numbers .entry)) places keys (length (now (kinds .entry)))))) ⌝ }
 {
     let row = production(kinds, numbers, kinds.len());
     if row < COMPARISONS {

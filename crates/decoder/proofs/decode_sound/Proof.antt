@@ -8,7 +8,7 @@ use Rattle.slices.proofs.Bytes.{all-of}
 use Rattle.semantics.specs.FromTokens.{fromTokens}
 use Rattle.semantics.specs.Records.{Records, recordsOf, tokenAt}
 use Rattle.productions.specs.Before.{before}
-use Rattle.readers.specs.Told.{told}
+use Rattle.readers.specs.Readings.{readingOf}
 use Rattle.emission.specs.Pieces.{judged}
 use Rattle.readers.specs.declared.Reading.{Reading}
 use Rattle.decoder.proofs.Scans.{ready-numbered, ready-whole}
@@ -45,7 +45,7 @@ judge-requires c κs = let s = start₁ (c .before .before .before .before) in (
 -- the reading
 read-is : (c : tie.After-known-told)
     → let s = start₁ (c .before .before .before .before) in
-    Reading.Read (c .before .start .given .0 .0) ≡ told (fromTokens (before (tokenAt (records s)) (length (s .args .kinds .now))))
+    Reading.Read (c .before .start .given .0 .0) ≡ readingOf (fromTokens (before (tokenAt (records s)) (length (s .args .kinds .now))))
 read-is c =
     let s = start₁ (c .before .before .before .before) in
     sym (c .before .start .given .1) ∙ c .before .before .before .read-condition .ensures (s .args .places .now) (s .args .keys .now)

@@ -3,7 +3,7 @@ use mathlib.Core.List.{[]}
 use borrow.Author.Needs.{needs}
 use borrow.Author.Tests.{eq-eqb, le-ltb, lt-ltb, ne-eqb}
 use Rattle.semantics.specs.Records.{recordsOf}
-use Rattle.readers.specs.Told.{leftEnd}
+use Rattle.readers.specs.Readings.{leftEnd}
 use Rattle.readers.proofs.Onward.{between-some}
 use Rattle.readers.proofs.left_end.Statement.{statement}
 use Rattle.readers.proofs.left_end.Tie as tie
