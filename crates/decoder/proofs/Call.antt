@@ -25,14 +25,15 @@ use Rattle.semantics.proofs.Find.{reader-picked, reader-sound}
 use Rattle.semantics.proofs.FromTokens.{arith-reader}
 use Rattle.semantics.proofs.Meaning.{call-decodes, call-unambiguous, decoded-fits}
 use Rattle.semantics.proofs.Records.{length-tokens, tokens-sound}
-use Rattle.decoder.specs.Before.{before}
-use Rattle.decoder.specs.Told.{Ready, told}
-use Rattle.decoder.specs.Pieces.{joined, judged, keeps, pieces}
-use Rattle.decoder.specs.declared.emission.Judged.{Judged}
-use Rattle.decoder.specs.declared.readers.Reading as R
-use Rattle.decoder.proofs.Tokens.{length-before, reverse-tokens}
-use Rattle.decoder.proofs.Trees.{arith-joined, arithPieces, form-pieces}
-use Rattle.decoder.proofs.Rules.{keeps-rule, kept}
+use Rattle.productions.specs.Before.{before}
+use Rattle.readers.specs.Readings.{readingOf}
+use Rattle.decoder.specs.Sound.{Ready}
+use Rattle.emission.specs.Pieces.{joined, judged, keeps, pieces}
+use Rattle.emission.specs.declared.Judged.{Judged}
+use Rattle.readers.specs.declared.Reading as R
+use Rattle.productions.proofs.Tokens.{length-before, reverse-tokens}
+use Rattle.emission.proofs.Trees.{arith-joined, arithPieces, form-pieces}
+use Rattle.emission.proofs.Rules.{keeps-rule, kept}
 
 -- the pieces of the tokens from `start` on
 abbrev pub allPieces : Records → ℕ → List (List ℕ)
@@ -43,10 +44,10 @@ unfolding decode
 decode-is r = ap (λ (ts : List Token). reading (fromTokens ts)) (reverse-tokens r)
 
 -- 11: nothing is read
-pub read-none : (r : Records) → R.Reading.Nothing ≡ told (fromTokens (before (tokenAt r) (length (r .kinds)))) → decode (tokens r) ≡ Reading.refused Refusal.NoCondition
+pub read-none : (r : Records) → R.Reading.Nothing ≡ readingOf (fromTokens (before (tokenAt r) (length (r .kinds)))) → decode (tokens r) ≡ Reading.refused Refusal.NoCondition
 read-none r e = decode-is r ∙ go (fromTokens (before (tokenAt r) (length (r .kinds)))) e
   where
-    go : (g : Found Arith) → R.Reading.Nothing ≡ told g → reading g ≡ Reading.refused Refusal.NoCondition
+    go : (g : Found Arith) → R.Reading.Nothing ≡ readingOf g → reading g ≡ Reading.refused Refusal.NoCondition
     go (found a s) q = let z : _≡_ {A = ℕ} 0 1 = cc in absurd (omega arith)
     go nothing q = refl
 
@@ -55,11 +56,11 @@ ruled : (o : Option Refusal) (a : Arith) (start : ℕ) → unlessRuled o a start
 ruled none a start = refl
 ruled (some x) a start = refl
 
-pub read-judged : (r : Records) (start : ℕ) → R.Reading.Read start ≡ told (fromTokens (before (tokenAt r) (length (r .kinds))))
+pub read-judged : (r : Records) (start : ℕ) → R.Reading.Read start ≡ readingOf (fromTokens (before (tokenAt r) (length (r .kinds))))
     → decode (tokens r) ≡ cond (keeps (allPieces r start)) (Reading.accepted (joined (allPieces r start)) start) (Reading.refused Refusal.NoCondition)
 read-judged r start e = decode-is r ∙ go (fromTokens (before (tokenAt r) (length (r .kinds)))) refl e
   where
-    go : (g : Found Arith) → fromTokens (before (tokenAt r) (length (r .kinds))) ≡ g → R.Reading.Read start ≡ told g
+    go : (g : Found Arith) → fromTokens (before (tokenAt r) (length (r .kinds))) ≡ g → R.Reading.Read start ≡ readingOf g
         → reading g ≡ cond (keeps (allPieces r start)) (Reading.accepted (joined (allPieces r start)) start) (Reading.refused Refusal.NoCondition)
     go (found a s) p q =
         let size : length s ≡ start = cc in
@@ -79,7 +80,7 @@ module _ (r : Records) (old : List ℕ) (ready : Ready r old) (bytes : Bytes (r 
       → _≡_ {A = Decoding} (record { answer = Decoded.Refused Refusal.NoCondition; buffer = old }) (decodedAs old (decode (tokens r)))
   turned-down e = rw e
 
-  module _ (start : ℕ) (read : R.Reading.Read start ≡ told (fromTokens (before (tokenAt r) (length (r .kinds))))) where
+  module _ (start : ℕ) (read : R.Reading.Read start ≡ readingOf (fromTokens (before (tokenAt r) (length (r .kinds))))) where
     pub rule-broken : Judged.Broken ≡ judged (allPieces r start) → decode (tokens r) ≡ Reading.refused Refusal.NoCondition
     unfolding judged
     rule-broken e = read-judged r start read ∙ go (keeps (allPieces r start)) e

@@ -6,44 +6,19 @@ use mathlib.Core.Path.{_≡_, refl}
 use native.Mathlib.Nat.{add-suc, add-zero, suc-add, zero-add}
 use native.Mathlib.Numerals.{add-one}
 use native.Mathlib.Omega.{arith}
-use borrow.Author.Tests.{eq-eqb, eqb-true, le-leb, le-ltb, leb-true, lt-leb, lt-ltb, ltb-false, ltb-true, ne-eqb}
+use borrow.Author.Tests.{eq-eqb, le-ltb, leb-true, lt-ltb, ltb-false, ltb-true}
 use lib.Dec.{eqb, leb, ltb}
 use lib.ListN.{length, getD, List·getD-eq-default}
 use Rattle.semantics.specs.Records.{Records, soundAt, unsound, unsoundFrom}
 use Rattle.semantics.proofs.Tests.{and-true}
-use Rattle.decoder.specs.Before.{Numbered, Whole}
-use Rattle.decoder.specs.Sound.{fieldsSound}
-use Rattle.decoder.specs.Told.{scanned}
+use Rattle.productions.specs.Before.{Numbered, Whole}
+use Rattle.decoder.specs.Sound.{fieldsSound, scanned}
 use Rattle.decoder.specs.declared.soundness.Scanned.{Scanned}
 
 -- a record is sound if its fields are there and sound
-fields-are : (kind number place keys : ℕ)
-    → (leb kind 35 && (not (eqb kind 1) || ltb number (2 ^ 32)) && (not (eqb kind 3) || leb (place + 32) keys)) ≡ fieldsSound kind number place keys
-fields-are kind number place keys = go (ltb 35 kind) refl
-  where
-    both : (a : Bool) → (a && true) ≡ a
-    both true = refl
-    both false = refl
-
-    kinds : (c d : Bool) (x y : Bool) → (c ≡ true → d ≡ false) → ((not c || x) && (not d || y)) ≡ cond c x (cond d y true)
-    kinds true true x y h = absurd (let e = h refl in let z : _≡_ {A = ℕ} 0 1 = cc in omega arith)
-    kinds true false x y h = both x
-    kinds false true x y h = refl
-    kinds false false x y h = refl
-
-    go : (a : Bool) → ltb 35 kind ≡ a
-        → (leb kind 35 && (not (eqb kind 1) || ltb number (2 ^ 32)) && (not (eqb kind 3) || leb (place + 32) keys))
-        ≡ cond a false (cond (eqb kind 1) (ltb number 4294967296) (cond (eqb kind 3) (leb (place + 32) keys) true))
-    go true e = rw (lt-leb kind 35 (ltb-true 35 kind e))
-    go false e =
-        let low : kind ≤ 35 = ltb-false 35 kind e in
-        rw (le-leb kind 35 low) (kinds (eqb kind 1) (eqb kind 3) (ltb number 4294967296) (leb (place + 32) keys) λ q. ne-eqb kind 3 (λ f. omega (arith, eqb-true kind 1 q)))
-
 pub sound-fields : (r : Records) (i : ℕ) → i < length (r .numbers) → i < length (r .places)
     → soundAt r i ≡ fieldsSound (getD (r .kinds) i 0) (getD (r .numbers) i 0) (getD (r .places) i 0) (length (r .keys))
-sound-fields r i h g =
-    rw (lt-ltb i (length (r .numbers)) h, lt-ltb i (length (r .places)) g)
-    (fields-are (getD (r .kinds) i 0) (getD (r .numbers) i 0) (getD (r .places) i 0) (length (r .keys)))
+sound-fields r i h g = rw (lt-ltb i (length (r .numbers)) h, lt-ltb i (length (r .places)) g)
 
 pub no-number : (r : Records) (i : ℕ) → length (r .numbers) ≤ i → soundAt r i ≡ false
 no-number r i h = rw (le-ltb i (length (r .numbers)) h)

@@ -1,6 +1,2 @@
--- What the decoder's contracts cite beside the definitions of `semantics`, in reading order.
-pub mod Before
+-- What the contracts cite beside the definitions of `semantics`.
 pub mod Sound
-pub mod Ending
-pub mod Told
-pub mod Pieces

@@ -1,12 +1,12 @@
 // Decode: the condition code of which the last token records are the token form. The readers find where it begins; then its oracle rule and length are
 // judged, and it is written straight into the lent buffer.
-use crate::emission::Judged;
-use crate::emission::emit;
-use crate::emission::judge;
-use crate::readers::Reading;
-use crate::readers::read_condition;
 use crate::soundness::Scanned;
 use crate::soundness::scan;
+use emission::Judged;
+use emission::emit;
+use emission::judge;
+use readers::Reading;
+use readers::read_condition;
 use semantics::Decoded;
 use semantics::MAX_CODE;
 use semantics::MAX_TOKENS;
@@ -15,11 +15,8 @@ ghost use mathlib.Core.Path.{_≡_};
 ghost use Rattle.semantics.specs.Decode.{decode, decoded, decodedAs};
 ghost use Rattle.semantics.specs.Meaning.{CallUnambiguous};
 ghost use Rattle.semantics.specs.Records.{recordsOf, tokens};
-ghost use Rattle.decoder.specs.Told.{Ready};
+ghost use Rattle.decoder.specs.Sound.{Ready};
 
-mod emission;
-mod productions;
-mod readers;
 mod soundness;
 
 // Decodes up to 1,024 sound records into a buffer that is large enough.

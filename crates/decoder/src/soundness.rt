@@ -1,8 +1,18 @@
 // Which token record is unsound.
 ghost use mathlib.Core.Path.{_≡_};
 ghost use Rattle.semantics.specs.Records.{recordsOf, unsound};
-ghost use Rattle.decoder.specs.Sound.{fieldsSound};
-ghost use Rattle.decoder.specs.Told.{scanned};
+ghost use Rattle.decoder.specs.Sound.{fieldsSound, scanned};
+
+// The kinds of a Num and of a key, and what soundness asks of them.
+const NUM: u8 = 1;
+
+const NUM_LIMIT: u64 = 4294967296;
+
+const BYTES32: u8 = 3;
+
+const KEY_BYTES: usize = 32;
+
+const MOST_KIND: u8 = 35;
 
 // The first unsound record, if there is one.
 pub enum Scanned {
@@ -14,18 +24,19 @@ pub enum Scanned {
 fn fields_sound(kind: u8, number: u64, place: u32, keys: usize) -> bool
     ensures { λ r. ⌜ r ≡ fieldsSound kind number place keys ⌝ }
 {
-    if 35 < kind {
+    if MOST_KIND < kind {
         return false;
     }
-    if kind == 1 {
-        return number < 4294967296;
+    if kind == NUM {
+        return number < NUM_LIMIT;
     }
-    if kind == 3 {
-        return place as usize + 32 <= keys;
+    if kind == BYTES32 {
+        return place as usize + KEY_BYTES <= keys;
     }
     true
 }
 
+// The first unsound record; one whose number or place is not lent is unsound.
 pub fn scan(kinds: &[u8], numbers: &[u64], places: &[u32], keys: &[u8]) -> Scanned
     ensures { λ r. ⌜ r ≡ scanned (unsound (recordsOf (now (kinds .entry)) (now (numbers .entry)) (now (places .entry)) (now (keys .entry)))) ⌝ }
 {

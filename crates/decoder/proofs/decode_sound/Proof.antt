@@ -7,10 +7,10 @@ use Rattle.slices.specs.Bytes.{All, Bytes}
 use Rattle.slices.proofs.Bytes.{all-of}
 use Rattle.semantics.specs.FromTokens.{fromTokens}
 use Rattle.semantics.specs.Records.{Records, recordsOf, tokenAt}
-use Rattle.decoder.specs.Before.{before}
-use Rattle.decoder.specs.Told.{told}
-use Rattle.decoder.specs.Pieces.{judged}
-use Rattle.decoder.specs.declared.readers.Reading.{Reading}
+use Rattle.productions.specs.Before.{before}
+use Rattle.readers.specs.Readings.{readingOf}
+use Rattle.emission.specs.Pieces.{judged}
+use Rattle.readers.specs.declared.Reading.{Reading}
 use Rattle.decoder.proofs.Scans.{ready-numbered, ready-whole}
 use Rattle.decoder.proofs.Call.{allPieces, code-accepted, code-room, read-none, rule-broken, turned-down}
 use Rattle.decoder.proofs.decode_sound.Statement.{statement}
@@ -45,7 +45,7 @@ judge-requires c κs = let s = start₁ (c .before .before .before .before) in (
 -- the reading
 read-is : (c : tie.After-known-told)
     → let s = start₁ (c .before .before .before .before) in
-    Reading.Read (c .before .start .given .0 .0) ≡ told (fromTokens (before (tokenAt (records s)) (length (s .args .kinds .now))))
+    Reading.Read (c .before .start .given .0 .0) ≡ readingOf (fromTokens (before (tokenAt (records s)) (length (s .args .kinds .now))))
 read-is c =
     let s = start₁ (c .before .before .before .before) in
     sym (c .before .start .given .1) ∙ c .before .before .before .read-condition .ensures (s .args .places .now) (s .args .keys .now)

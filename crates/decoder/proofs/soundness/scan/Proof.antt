@@ -7,7 +7,7 @@ use borrow.Author.Tests.{not-true, not-false}
 use native.Mathlib.Nat.{sub-zero}
 use lib.ListN.{length}
 use Rattle.semantics.specs.Records.{Records, recordsOf, unsound, unsoundFrom}
-use Rattle.decoder.specs.Told.{scanned}
+use Rattle.decoder.specs.Sound.{scanned}
 use Rattle.decoder.proofs.Scans.{no-number, no-place, sound-fields, unsound-here, unsound-next, unsound-none}
 use Rattle.decoder.proofs.soundness.scan.Statement.{statement}
 use Rattle.decoder.proofs.soundness.scan.Tie as tie

@@ -1,0 +1,228 @@
+// The code of the tokens that were read: a piece for each production, from the last token back. First the oracle rule and the length are judged, and then the pieces are written.
+use productions::INPUT;
+use productions::ROWS;
+use productions::command;
+use productions::kind_before;
+use productions::production;
+use productions::width;
+ghost use mathlib.Core.Path.{_≡_};
+ghost use mathlib.Core.Bool.{_||_};
+ghost use mathlib.Core.List.{List, [], _∷_, _++_};
+ghost use Prim.Native.Nat.{ℕ, _+_, _-_, _≤_, _<_};
+ghost use lib.ListN.{length, take, drop};
+ghost use lib.Dec.{eqb};
+ghost use Rattle.slices.specs.Bytes.{littleEndian};
+ghost use Rattle.semantics.specs.Code.{maxTokens};
+ghost use Rattle.semantics.specs.Records.{recordsOf};
+ghost use Rattle.productions.specs.Before.{Numbered, Whole, tokensBefore};
+ghost use Rattle.semantics.specs.Evaluate.{over};
+ghost use Rattle.emission.specs.Pieces.{Met, Placed, joined, judged, pieces, placedPiece, priceOracle1, put, sizeOf};
+
+// The kind of the current index, and the commands that are told apart by number.
+const CURR_INP: u8 = 4;
+
+const IDX_CONST: u8 = 1;
+
+const CONST: u8 = 16;
+
+const CURR_INPUT_IDX: u8 = 17;
+
+const PRICE_ORACLE_1: u8 = 32;
+
+const PRICE_ORACLE_1W: u8 = 33;
+
+// A piece's command, 0 where it has none, and the place of its first token.
+pub struct Piece {
+    pub command: u8,
+    pub first: usize,
+}
+
+// The length of the code that keeps the oracle rule.
+pub enum Judged {
+    Kept(usize),
+    Broken,
+}
+
+// The piece that the tokens before `end` end with; `Input` of the current index is `CurrInputIdx`.
+fn last_piece(kinds: &[u8], numbers: &[u64], end: usize) -> Piece
+    requires { ⌜ Numbered (now kinds) (now numbers) end ⌝ }
+    requires { ⌜ 0 < end ⌝ }
+    ensures { λ r. ⌜ ((places keys : List ℕ) → Met (recordsOf (now (kinds .entry)) (now (numbers .entry)) places keys) end r) ⌝ }
+{
+    let row = production(kinds, numbers, end);
+    if ROWS <= row {
+        return Piece {
+            command: 0,
+            first: end - 1,
+        };
+    }
+    let start = end - width(row);
+    if row == INPUT {
+        if kind_before(kinds, start, 0) == CURR_INP {
+            return Piece {
+                command: CURR_INPUT_IDX,
+                first: start - 1,
+            };
+        }
+    }
+    Piece {
+        command: command(row),
+        first: start,
+    }
+}
+
+// The number of bytes of a piece: its command, and an operand of eight or forty bytes.
+fn size(command: u8) -> usize
+    ensures { λ r. ⌜ r ≡ sizeOf command ⌝ }
+{
+    if command == 0 {
+        return 0;
+    }
+    if command == IDX_CONST {
+        return 9;
+    }
+    if command == CONST {
+        return 9;
+    }
+    if command == PRICE_ORACLE_1 {
+        return 41;
+    }
+    if command == PRICE_ORACLE_1W {
+        return 41;
+    }
+    1
+}
+
+// Whether PriceOracle1 is among the later commands, once another command stands before the first.
+fn among_later(later: bool, first: u8) -> bool
+    ensures { λ r. ⌜ r ≡ (eqb first priceOracle1 || later) ⌝ }
+{
+    if first == PRICE_ORACLE_1 {
+        return true;
+    }
+    later
+}
+
+// The length of the code of the tokens from `start` on, if the first command is not PriceOracle1W, and PriceOracle1 is not among the later ones.
+pub fn judge(kinds: &[u8], numbers: &[u64], start: usize) -> Judged
+    requires { ⌜ Numbered (now kinds) (now numbers) (length (now kinds)) ⌝ }
+    requires { ⌜ length (now kinds) ≤ maxTokens ⌝ }
+    ensures { λ r. ⌜ ((places keys : List ℕ) → Whole (now (kinds .entry)) places keys →
+        r ≡ judged (pieces (length (now (kinds .entry)) - start)
+        (tokensBefore (now (kinds .entry)) (now (numbers .entry)) places keys (length (now (kinds .entry)))))) ⌝ }
+{
+    let mut end = kinds.len();
+    let mut bytes: usize = 0;
+    let mut first: u8 = 0;
+    let mut later = false;
+    while start < end {
+        let p = last_piece(kinds, numbers, end);
+        later = among_later(later, first);
+        first = p.command;
+        bytes += size(p.command);
+        end = p.first;
+    }
+    if later {
+        return Judged::Broken;
+    }
+    if first == PRICE_ORACLE_1W {
+        return Judged::Broken;
+    }
+    Judged::Kept(bytes)
+}
+
+// A place in the key bytes as an index.
+fn u32_to_usize(x: u32) -> usize
+    ensures { λ r. ⌜ r ≡ x ⌝ }
+{
+    x as usize
+}
+
+// A command with a number of eight bytes, which end at `at`.
+fn put_number(code: &mut [u8], at: usize, command: u8, number: u64)
+    requires { ⌜ (9 ≤ at) × (at ≤ length (now code)) ⌝ }
+    ensures { λ _. ⌜ now (code .exit) ≡ put (now (code .entry)) at (command ∷ littleEndian 8 number) ⌝ }
+{
+    code[at - 9] = command;
+    slices::write_le64(code, at - 8, number);
+}
+
+// A command with a key of 32 bytes and a time of eight, which end at `at`.
+fn put_oracle(code: &mut [u8], at: usize, command: u8, keys: &[u8], place: usize, time: u64)
+    requires { ⌜ (41 ≤ at) × (at ≤ length (now code)) × (place + 32 ≤ length (now keys)) ⌝ }
+    ensures { λ _. ⌜ now (code .exit) ≡ put (now (code .entry)) at
+        (command ∷ take 32 (drop place (now (keys .entry))) ++ littleEndian 8 time) ⌝ }
+{
+    code[at - 41] = command;
+    slices::copy(keys, place, code, at - 40, 32);
+    slices::write_le64(code, at - 8, time);
+}
+
+// The bytes of a piece, which end at `at`.
+fn put_piece(numbers: &[u64], places: &[u32], keys: &[u8], p: Piece, code: &mut [u8], at: usize)
+    requires { ⌜ Placed (now numbers) (now places) (now keys) p ⌝ }
+    requires { ⌜ (sizeOf (p .command) ≤ at) × (at ≤ length (now code)) ⌝ }
+    ensures { λ _. ⌜ now (code .exit) ≡ put (now (code .entry)) at
+        (placedPiece (recordsOf [] (now (numbers .entry)) (now (places .entry)) (now (keys .entry))) (p .command) (p .first)) ⌝ }
+{
+    let command = p.command;
+    let first = p.first;
+    if command == 0 {
+        return;
+    }
+    if command == PRICE_ORACLE_1 {
+        put_oracle(
+            code,
+            at,
+            command,
+            keys,
+            u32_to_usize(places[first + 7]),
+            numbers[first + 2],
+        );
+        return;
+    }
+    if command == PRICE_ORACLE_1W {
+        put_oracle(
+            code,
+            at,
+            command,
+            keys,
+            u32_to_usize(places[first + 8]),
+            numbers[first + 3],
+        );
+        return;
+    }
+    if size(command) == 9 {
+        put_number(code, at, command, numbers[first]);
+        return;
+    }
+    code[at - 1] = command;
+}
+
+// Writes the code of the tokens from `start` on, of so many bytes, to the front of the buffer.
+pub fn emit(
+    kinds: &[u8],
+    numbers: &[u64],
+    places: &[u32],
+    keys: &[u8],
+    start: usize,
+    code: &mut [u8],
+    bytes: usize,
+)
+    requires { ⌜ Numbered (now kinds) (now numbers) (length (now kinds)) ⌝ }
+    requires { ⌜ Whole (now kinds) (now places) (now keys) ⌝ }
+    requires { ⌜ (bytes ≤ length (now code)) × (bytes ≡ length (joined (pieces (length (now kinds) - start)
+        (tokensBefore (now kinds) (now numbers) (now places) (now keys) (length (now kinds)))))) ⌝ }
+    ensures { λ _. ⌜ now (code .exit) ≡ over (joined (pieces (length (now (kinds .entry)) - start)
+        (tokensBefore (now (kinds .entry)) (now (numbers .entry)) (now (places .entry)) (now (keys .entry)) (length (now (kinds .entry))))))
+        (now (code .entry)) ⌝ }
+{
+    let mut end = kinds.len();
+    let mut at = bytes;
+    while start < end {
+        let p = last_piece(kinds, numbers, end);
+        put_piece(numbers, places, keys, p, code, at);
+        at -= size(p.command);
+        end = p.first;
+    }
+}

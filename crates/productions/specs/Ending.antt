@@ -1,0 +1,141 @@
+-- What tokens can end with: the own tokens of a value or index expression, what stands between two index operands, or a comparison. Each has a
+-- row: its command, and the marks of its own tokens, the last one first. The rows are made of the definitions' forms.
+use Prim.Native.Nat.{ℕ, suc, _-_}
+use mathlib.Core.Bool.{Bool, true, false, _&&_, cond}
+use mathlib.Core.List.{List, [], _∷_, _++_, map, reverse}
+use lib.ListN.{length, getD, drop, replicate}
+use lib.Dec.{eqb, ltb}
+use Rattle.semantics.specs.Operations.{Token, op, idxRow, listRow, binRow, unRow, cmpRow, idxOps, cmpOps}
+use Rattle.semantics.specs.Trees.{IdxExpr, Expr}
+use Rattle.semantics.specs.declared.IdxOp.{IdxOp}
+use Rattle.semantics.specs.declared.CmpOp.{CmpOp}
+use Rattle.semantics.specs.Code.{idxCode, exprCode}
+use Rattle.semantics.specs.FromTokens.{Found, Head, IdxHead, found, headForm, heads, idxHeadForm, nothing, numberAt}
+
+pub data Production : Type 0 where
+  value : Head → Production
+  index : IdxHead → Production
+  between : Production
+  comparison : CmpOp → Production
+
+-- its own tokens, the last one first
+unfoldable pub ending : Production → List Token
+ending (Production.value h) = headForm h
+ending (Production.index h) = idxHeadForm h
+ending Production.between = reverse (idxRow IdxOp.Mul .between)
+ending (Production.comparison o) = reverse (cmpRow o .form)
+
+-- all of them, with what the tokens carry where the production carries something
+abbrev pub productions : List Token → List Production
+productions ts =
+    map Production.value (heads ts) ++ map Production.index (IdxHead.const (numberAt ts 0) ∷ IdxHead.curr ∷ map IdxHead.oper idxOps)
+    ++ Production.between ∷ map Production.comparison cmpOps
+
+abbrev pub productionOf : List Token → ℕ → Production
+productionOf ts k = getD (productions ts) k Production.between
+
+-- its own part of the condition code
+unfoldable pub ownCode : Production → List ℕ
+ownCode (Production.value (Head.const n)) = exprCode (Expr.Const n)
+ownCode (Production.value (Head.lookup l)) = listRow l .command ∷ []
+ownCode (Production.value (Head.unary o)) = unRow o .command ∷ []
+ownCode (Production.value (Head.binary o)) = binRow o .command ∷ []
+ownCode (Production.value (Head.oracle key time)) = exprCode (Expr.PriceOracle1 key time)
+ownCode (Production.value (Head.oracleW key time)) = exprCode (Expr.PriceOracle1W key time)
+ownCode (Production.index (IdxHead.const n)) = idxCode (IdxExpr.Const n)
+ownCode (Production.index IdxHead.curr) = idxCode IdxExpr.CurrIdx
+ownCode (Production.index (IdxHead.oper o)) = idxRow o .command ∷ []
+ownCode Production.between = []
+ownCode (Production.comparison o) = cmpRow o .command ∷ []
+
+-- kinds that the rows are told apart by
+abbrev pub equalKind : ℕ
+equalKind = 14
+
+abbrev pub verifyKind : ℕ
+verifyKind = 15
+
+abbrev pub nipKind : ℕ
+nipKind = 16
+
+abbrev pub le64ToScriptNumKind : ℕ
+le64ToScriptNumKind = 8
+
+-- a mark is the token's kind, but a Num of 1 has a mark of its own; and what is no mark
+abbrev pub numOne : ℕ
+numOne = 36
+
+abbrev pub noMark : ℕ
+noMark = 99
+
+abbrev pub mark : Token → ℕ
+mark t = cond (eqb (t .kind) 1 && eqb (t .number) 1) numOne (t .kind)
+
+pub record Row : Type 0 where
+  pub command : ℕ
+  pub marks : List ℕ
+
+abbrev pub rowOf : Production → Row
+rowOf p = record { command = getD (ownCode p) 0 0; marks = map mark (ending p) }
+
+abbrev pub blank : Row
+blank = record { command = 0; marks = [] }
+
+-- the rows, in the order of the productions; a constant, a time and a key may be any
+unfoldable pub rows : List Row
+rows = map rowOf (productions [])
+
+abbrev pub rowCount : ℕ
+rowCount = 29
+
+abbrev pub divRow : ℕ
+divRow = 10
+
+abbrev pub indexDivRow : ℕ
+indexDivRow = 22
+
+abbrev pub rowAt : ℕ → Row
+rowAt k = getD rows k blank
+
+-- a row as the code has it: the command, the number of marks, the marks, and zeros
+abbrev pub entry : Row → List ℕ
+entry r = r .command ∷ length (r .marks) ∷ (r .marks ++ replicate (13 - length (r .marks)) 0)
+
+-- whether a token has a mark
+abbrev pub fits : ℕ → ℕ → ℕ → Bool
+fits m kind number = cond (eqb m numOne) (eqb kind 1 && eqb number 1) (eqb kind m)
+
+-- whether tokens end with marks
+unfoldable pub ends : List ℕ → List Token → Bool
+ends [] ts = true
+ends (m ∷ ms) [] = false
+ends (m ∷ ms) (t ∷ ts) = fits m (t .kind) (t .number) && ends ms ts
+
+abbrev pub kindAt : List Token → ℕ → ℕ
+kindAt ts i = getD ts i (op 0) .kind
+
+-- how many rows stand before the first with this mark at this place
+abbrev pub rowsBefore : ℕ → ℕ → List Row → ℕ
+rowsBefore place m [] = 0
+rowsBefore place m (r ∷ rs) = cond (eqb (getD (r .marks) place noMark) m) 0 (suc (rowsBefore place m rs))
+
+-- the only row that tokens with these last, second last and fourth last kinds can end with, or the number of rows
+abbrev pub candidate : ℕ → ℕ → ℕ → ℕ
+candidate last second fourth =
+    cond (eqb last verifyKind) (rowsBefore 3 fourth rows)
+    (cond (eqb last le64ToScriptNumKind && eqb second nipKind) indexDivRow
+    (cond (eqb last nipKind && eqb second verifyKind) divRow (rowsBefore 0 last rows)))
+
+abbrev pub candidateOf : List Token → ℕ
+candidateOf ts = candidate (kindAt ts 0) (kindAt ts 1) (kindAt ts 3)
+
+-- the row that tokens end with
+unfoldable pub production : List Token → Found ℕ
+production ts =
+    let k = candidateOf ts in
+    cond (ltb k rowCount && ends (rowAt k .marks) ts) (found k (drop (length (rowAt k .marks)) ts)) nothing
+
+-- its number, or the number of rows
+abbrev pub rowFound : Found ℕ → ℕ
+rowFound (found k r) = k
+rowFound nothing = rowCount

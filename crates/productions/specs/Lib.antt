@@ -1,0 +1,3 @@
+-- What the contracts cite beside the definitions of `semantics`, in reading order.
+pub mod Before
+pub mod Ending

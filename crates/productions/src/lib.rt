@@ -1,0 +1,274 @@
+// What the tokens before a place end with: a row of the table, told by the kinds of one or two tokens, and then compared mark by mark.
+ghost use mathlib.Core.Path.{_≡_};
+ghost use mathlib.Core.List.{List, [], _∷_};
+ghost use Prim.Native.Nat.{ℕ, _-_, _≤_, _<_};
+ghost use lib.ListN.{length, getD};
+ghost use Rattle.productions.specs.Before.{Numbered, tokensBefore};
+ghost use Rattle.productions.specs.Ending.{candidateOf, ends, entry, equalKind, fits, kindAt, numOne, production, rowAt, rowCount, rowFound, rows, rowsBefore};
+
+// Kinds of tokens.
+const NUM: u8 = 1;
+
+pub const SCRIPT_NUM_TO_LE64: u8 = 7;
+
+const LE64_TO_SCRIPT_NUM: u8 = 8;
+
+const EQUAL: u8 = 14;
+
+const VERIFY: u8 = 15;
+
+const NIP: u8 = 16;
+
+// The mark of a Num of 1; every other mark is a kind.
+const NUM_ONE: u8 = 36;
+
+// The rows stand in runs: a constant, lookups, operations on one value, on two, oracle terminals; index terminals, index operations; what stands between
+// the operands of index mul and div; comparisons. Each run is named by its first row, and the number of rows is no row's.
+pub const LOOKUPS: usize = 1;
+
+pub const INPUT: usize = 1;
+
+pub const UNARIES: usize = 5;
+
+pub const BINARIES: usize = 7;
+
+const DIV: usize = 10;
+
+pub const ORACLES: usize = 15;
+
+pub const INDEXES: usize = 17;
+
+pub const INDEX_OPERATIONS: usize = 19;
+
+pub const INDEX_MUL: usize = 21;
+
+const INDEX_DIV: usize = 22;
+
+pub const BETWEEN: usize = 23;
+
+pub const COMPARISONS: usize = 24;
+
+pub const ROWS: usize = 29;
+
+// A row's command, the number of its own tokens, and their marks, the last token first.
+fn entry(row: usize) -> [u8; 15]
+    requires { ⌜ row < rowCount ⌝ }
+    ensures { λ r. ⌜ r ≡ entry (rowAt row) ⌝ }
+{
+    match row {
+        0 => [16, 1, 2, 0, 0, 0, 0, 0, 0, 0, 0, 0, 0, 0, 0], // Const
+        1 => [18, 4, 15, 14, 36, 22, 0, 0, 0, 0, 0, 0, 0, 0, 0], // Input
+        2 => [19, 4, 15, 14, 36, 23, 0, 0, 0, 0, 0, 0, 0, 0, 0], // Output
+        3 => [20, 8, 16, 16, 15, 14, 36, 17, 17, 24, 0, 0, 0, 0, 0], // InputIssue
+        4 => [21, 8, 15, 14, 36, 17, 17, 17, 17, 24, 0, 0, 0, 0, 0], // InputReIssue
+        5 => [30, 1, 21, 0, 0, 0, 0, 0, 0, 0, 0, 0, 0, 0, 0], // Invert
+        6 => [31, 4, 15, 14, 36, 13, 0, 0, 0, 0, 0, 0, 0, 0, 0], // Negate
+        7 => [22, 4, 15, 14, 36, 11, 0, 0, 0, 0, 0, 0, 0, 0, 0], // Add
+        8 => [23, 4, 15, 14, 36, 12, 0, 0, 0, 0, 0, 0, 0, 0, 0], // Sub
+        9 => [24, 4, 15, 14, 36, 9, 0, 0, 0, 0, 0, 0, 0, 0, 0], // Mul
+        10 => [25, 5, 16, 15, 14, 36, 10, 0, 0, 0, 0, 0, 0, 0, 0], // Div
+        11 => [26, 5, 17, 15, 14, 36, 10, 0, 0, 0, 0, 0, 0, 0, 0], // Mod
+        12 => [27, 1, 18, 0, 0, 0, 0, 0, 0, 0, 0, 0, 0, 0, 0], // BitAnd
+        13 => [28, 1, 19, 0, 0, 0, 0, 0, 0, 0, 0, 0, 0, 0, 0], // BitOr
+        14 => [29, 1, 20, 0, 0, 0, 0, 0, 0, 0, 0, 0, 0, 0, 0], // Xor
+        15 => [32, 10, 27, 34, 3, 33, 32, 15, 28, 2, 26, 25, 0, 0, 0], // PriceOracle1
+        16 => [33, 13, 35, 27, 27, 34, 3, 33, 32, 15, 28, 2, 26, 25, 26], // PriceOracle1W
+        17 => [1, 1, 1, 0, 0, 0, 0, 0, 0, 0, 0, 0, 0, 0, 0], // index constant
+        18 => [2, 1, 4, 0, 0, 0, 0, 0, 0, 0, 0, 0, 0, 0, 0], // current index
+        19 => [3, 1, 5, 0, 0, 0, 0, 0, 0, 0, 0, 0, 0, 0, 0], // index add
+        20 => [4, 1, 6, 0, 0, 0, 0, 0, 0, 0, 0, 0, 0, 0, 0], // index sub
+        21 => [5, 6, 8, 15, 14, 36, 9, 7, 0, 0, 0, 0, 0, 0, 0], // index mul
+        22 => [6, 7, 8, 16, 15, 14, 36, 10, 7, 0, 0, 0, 0, 0, 0], // index div
+        23 => [0, 1, 7, 0, 0, 0, 0, 0, 0, 0, 0, 0, 0, 0, 0], // between the operands of index mul and div
+        24 => [48, 1, 14, 0, 0, 0, 0, 0, 0, 0, 0, 0, 0, 0, 0], // Eq
+        25 => [49, 1, 31, 0, 0, 0, 0, 0, 0, 0, 0, 0, 0, 0, 0], // Lt
+        26 => [50, 1, 30, 0, 0, 0, 0, 0, 0, 0, 0, 0, 0, 0, 0], // Leq
+        27 => [51, 1, 29, 0, 0, 0, 0, 0, 0, 0, 0, 0, 0, 0, 0], // Gt
+        _ => [52, 1, 28, 0, 0, 0, 0, 0, 0, 0, 0, 0, 0, 0, 0], // Geq
+    }
+}
+
+// A number of the table as a number of tokens.
+fn u8_to_usize(x: u8) -> usize
+    ensures { λ r. ⌜ r ≡ x ⌝ }
+{
+    x as usize
+}
+
+// A row's command; 0 for what stands between two index operands.
+pub fn command(row: usize) -> u8
+    requires { ⌜ row < rowCount ⌝ }
+    ensures { λ r. ⌜ r ≡ rowAt row .command ⌝ }
+{
+    let e = entry(row);
+    e[0]
+}
+
+// The number of a row's own tokens.
+pub fn width(row: usize) -> usize
+    requires { ⌜ row < rowCount ⌝ }
+    ensures { λ r. ⌜ r ≡ length (rowAt row .marks) ⌝ }
+{
+    let e = entry(row);
+    u8_to_usize(e[1])
+}
+
+// The first row whose last token has this kind, or the number of rows.
+fn by_last(kind: u8) -> usize
+    requires { ⌜ kind < 36 ⌝ }
+    ensures { λ r. ⌜ r ≡ rowsBefore 0 kind rows ⌝ }
+{
+    match kind {
+        1 => 17,
+        2 => 0,
+        4 => 18,
+        5 => 19,
+        6 => 20,
+        7 => 23,
+        8 => 21,
+        14 => 24,
+        15 => 1,
+        16 => 3,
+        17 => 11,
+        18 => 12,
+        19 => 13,
+        20 => 14,
+        21 => 5,
+        27 => 15,
+        28 => 28,
+        29 => 27,
+        30 => 26,
+        31 => 25,
+        35 => 16,
+        _ => ROWS,
+    }
+}
+
+// The first row whose fourth last token has this kind, or the number of rows.
+fn by_fourth(kind: u8) -> usize
+    requires { ⌜ kind < 36 ⌝ }
+    ensures { λ r. ⌜ r ≡ rowsBefore 3 kind rows ⌝ }
+{
+    match kind {
+        9 => 9,
+        11 => 7,
+        12 => 8,
+        13 => 6,
+        14 => 3,
+        17 => 4,
+        22 => 1,
+        23 => 2,
+        33 => 15,
+        34 => 16,
+        _ => ROWS,
+    }
+}
+
+// The kind of the token before `end` that has k tokens behind it there; 0 where there is none.
+pub fn kind_before(kinds: &[u8], end: usize, k: usize) -> u8
+    requires { ⌜ end ≤ length (now kinds) ⌝ }
+    ensures { λ r. ⌜ ((numbers places keys : List ℕ) → r ≡ kindAt (tokensBefore (now (kinds .entry)) numbers places keys end) k) ⌝ }
+{
+    if k < end { kinds[end - 1 - k] } else { 0 }
+}
+
+// The only row that the tokens before `end` can end with, or the number of rows.
+fn candidate(kinds: &[u8], end: usize) -> usize
+    requires { ⌜ ((i : ℕ) → getD (now kinds) i 0 < 36) × (end ≤ length (now kinds)) ⌝ }
+    ensures { λ r. ⌜ ((numbers places keys : List ℕ) → r ≡ candidateOf (tokensBefore (now (kinds .entry)) numbers places keys end)) ⌝ }
+{
+    let last = kind_before(kinds, end, 0);
+    if last == VERIFY {
+        return by_fourth(kind_before(kinds, end, 3));
+    }
+    if last == LE64_TO_SCRIPT_NUM {
+        if kind_before(kinds, end, 1) == NIP {
+            return INDEX_DIV;
+        }
+    }
+    if last == NIP {
+        if kind_before(kinds, end, 1) == VERIFY {
+            return DIV;
+        }
+    }
+    by_last(last)
+}
+
+// Whether a token has a mark of the table.
+fn fits(mark: u8, kind: u8, number: u64) -> bool
+    ensures { λ r. ⌜ r ≡ fits mark kind number ⌝ }
+{
+    if mark == NUM_ONE {
+        if kind == NUM {
+            return number == 1;
+        }
+        return false;
+    }
+    kind == mark
+}
+
+// Whether the tokens before `end` end with the marks of a row.
+fn ends(kinds: &[u8], numbers: &[u64], end: usize, row: usize) -> bool
+    requires { ⌜ (length (now kinds) ≤ length (now numbers)) × (end ≤ length (now kinds)) ⌝ }
+    requires { ⌜ row < rowCount ⌝ }
+    ensures { λ r. ⌜ ((places keys : List ℕ) →
+        r ≡ ends (rowAt row .marks) (tokensBefore (now (kinds .entry)) (now (numbers .entry)) places keys end)) ⌝ }
+{
+    let e = entry(row);
+    let n = u8_to_usize(e[1]);
+    let mut last = end;
+    let mut i = 0;
+    while i < n {
+        if last == 0 {
+            return false;
+        }
+        last -= 1;
+        if !fits(e[i + 2], kinds[last], numbers[last]) {
+            return false;
+        }
+        i += 1;
+    }
+    true
+}
+
+// Whether a Num of 1 and Equal stand before the last one of the tokens before `end`.
+fn ends_with_one_equal(kinds: &[u8], numbers: &[u64], end: usize) -> bool
+    requires { ⌜ (length (now kinds) ≤ length (now numbers)) × (end ≤ length (now kinds)) ⌝ }
+    ensures { λ r. ⌜ ((places keys : List ℕ) →
+        r ≡ ends (equalKind ∷ numOne ∷ []) (tokensBefore (now (kinds .entry)) (now (numbers .entry)) places keys (end - 1))) ⌝ }
+{
+    if end < 3 {
+        return false;
+    }
+    if kinds[end - 2] != EQUAL {
+        return false;
+    }
+    fits(NUM_ONE, kinds[end - 3], numbers[end - 3])
+}
+
+// The row that the tokens before `end` end with, or the number of rows. The kind of the last one tells a row of one token; rows of four tokens differ in the
+// first of them alone.
+pub fn production(kinds: &[u8], numbers: &[u64], end: usize) -> usize
+    requires { ⌜ Numbered (now kinds) (now numbers) end ⌝ }
+    ensures { λ r. ⌜ ((places keys : List ℕ) →
+        r ≡ rowFound (production (tokensBefore (now (kinds .entry)) (now (numbers .entry)) places keys end))) ⌝ }
+{
+    let row = candidate(kinds, end);
+    if ROWS <= row {
+        return ROWS;
+    }
+    let n = width(row);
+    if n == 1 {
+        return row;
+    }
+    if n == 4 {
+        if ends_with_one_equal(kinds, numbers, end) {
+            return row;
+        }
+        return ROWS;
+    }
+    if ends(kinds, numbers, end, row) {
+        return row;
+    }
+    ROWS
+}

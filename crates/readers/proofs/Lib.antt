@@ -1,0 +1,3 @@
+-- Laws of the definitions in specs/, one file a subject.
+pub mod Steps
+pub mod Onward
