@@ -2,12 +2,14 @@
 use Prim.Native.Nat.{ℕ, zero, suc, _<_, _≤_}
 use mathlib.Core.Path.{_≡_, refl, sym, _∙_, ap}
 use mathlib.Core.List.{List, [], _∷_, _++_, map}
+use native.Mathlib.Nat.{zero-add}
 use native.Mathlib.Omega.{arith}
+use lib.Seq.{length-paste, paste-suc}
 use lib.ListN.{length, getD, set, take, drop, length-map, List·getD-map}
 use Rattle.records.specs.declared.TokenRecord.{TokenRecord}
 use Rattle.records.specs.Fields.{recordsFrom}
 
--- ys, with the first n of xs in the place of its own first n
+-- ys, with the first n of xs in the place of its own first n: `paste` at 0
 abbrev pub onto : {A : Type 0} → ℕ → List A → List A → List A
 onto n xs ys = take n xs ++ drop n ys
 
@@ -16,16 +18,10 @@ abbrev pub blank : TokenRecord
 blank = record { kind = 0; number = 0; place = 0 }
 
 pub onto-step : {A : Type 0} (i : ℕ) (xs ys : List A) (d : A) → i < length xs → i < length ys → set (onto i xs ys) i (getD xs i d) ≡ onto (suc i) xs ys
-onto-step i [] ys d l m = absurd (omega arith)
-onto-step i (x ∷ xs) [] d l m = absurd (omega arith)
-onto-step zero (x ∷ xs) (y ∷ ys) d l m = refl
-onto-step {A} (suc i) (x ∷ xs) (y ∷ ys) d l m = ap (λ (zs : List A). x ∷ zs) (onto-step i xs ys d (omega arith) (omega arith))
+onto-step i xs ys d l m = simp zero-add at (paste-suc ys 0 xs i d (omega arith) l)
 
 pub onto-length : {A : Type 0} (i : ℕ) (xs ys : List A) → i ≤ length xs → i ≤ length ys → length (onto i xs ys) ≡ length ys
-onto-length zero xs ys l m = refl
-onto-length (suc i) [] ys l m = absurd (omega arith)
-onto-length (suc i) (x ∷ xs) [] l m = absurd (omega arith)
-onto-length (suc i) (x ∷ xs) (y ∷ ys) l m = ap suc (onto-length i xs ys (omega arith) (omega arith))
+onto-length i xs ys l m = simp zero-add at (length-paste ys 0 xs i (omega arith) l)
 
 -- fields: element i is the field of record i
 pub field-step : (f : TokenRecord → ℕ) (rs : List TokenRecord) (ys : List ℕ) (i : ℕ) → i < length rs → i < length ys

@@ -11,4 +11,4 @@ covenant-decode-spec =
     (λ c κs. search needs)
     (λ c κs. search needs)
     (λ c. search needs)
-    (λ c. rw (← c .before .before .before .decode .ensures .0) (c .decode-answer .ensures, refl, c .before .before .before .decode .ensures .1)))
+    (λ c. rw (← c .before .before .before .decode .ensures .0) (c .decode-answer .ensures, (refl, c .before .before .before .decode .ensures .1))))

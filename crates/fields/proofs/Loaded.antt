@@ -23,7 +23,7 @@ use Rattle.records.proofs.Stored.{countOf, stored, stored-kept}
 use Rattle.answers.specs.declared.DecodeAnswer.{DecodeAnswer}
 use Rattle.answers.specs.declared.WriteAnswer.{WriteAnswer}
 use Rattle.answers.specs.Answers.{decodeAnswer, writeAnswer}
-use Rattle.covenant.specs.TokenRecords.{DecodesRecords, Loaded, WritesFields, loadable, writable}
+use Rattle.fields.specs.TokenRecords.{DecodesRecords, Loaded, WritesFields, loadable, writable}
 
 -- ---- Decode
 

@@ -1,8 +1,8 @@
 -- The test says which is less (`writable-most`, `writable-all`).
 use native.Mathlib.Omega.{arith}
-use Rattle.covenant.proofs.Loaded.{writable-all, writable-most}
-use Rattle.covenant.proofs.token_records.to_write.Statement.{statement}
-use Rattle.covenant.proofs.token_records.to_write.Tie as tie
+use Rattle.fields.proofs.Loaded.{writable-all, writable-most}
+use Rattle.fields.proofs.to_write.Statement.{statement}
+use Rattle.fields.proofs.to_write.Tie as tie
 
 pub to-write-spec : {M : Type 1} → statement M
 to-write-spec =

@@ -2,8 +2,8 @@
 use native.Mathlib.Omega.{arith}
 use borrow.Author.Tests.{le-leb, lt-leb}
 use Rattle.semantics.specs.Code.{maxTokens}
-use Rattle.covenant.proofs.token_records.to_load.Statement.{statement}
-use Rattle.covenant.proofs.token_records.to_load.Tie as tie
+use Rattle.fields.proofs.to_load.Statement.{statement}
+use Rattle.fields.proofs.to_load.Tie as tie
 
 pub to-load-spec : {M : Type 1} → statement M
 to-load-spec =

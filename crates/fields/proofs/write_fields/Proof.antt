@@ -6,9 +6,9 @@ use native.Mathlib.Omega.{arith}
 use lib.Seq.{length-take-le}
 use Rattle.slices.proofs.Bytes.{all-of}
 use Rattle.answers.specs.Answers.{writeAnswer}
-use Rattle.covenant.proofs.Loaded.{fields-written, writable-few}
-use Rattle.covenant.proofs.token_records.write_fields.Statement.{statement}
-use Rattle.covenant.proofs.token_records.write_fields.Tie as tie
+use Rattle.fields.proofs.Loaded.{fields-written, writable-few}
+use Rattle.fields.proofs.write_fields.Statement.{statement}
+use Rattle.fields.proofs.write_fields.Tie as tie
 
 pub write-fields-spec : {M : Type 1} → statement M
 write-fields-spec =

@@ -3,9 +3,9 @@ use borrow.Author.Needs.{needs}
 use mathlib.Core.Path.{refl, sym}
 use native.Mathlib.Omega.{arith}
 use lib.Seq.{length-take-le}
-use Rattle.covenant.proofs.Loaded.{decodes, loaded-few, refuses}
-use Rattle.covenant.proofs.token_records.decode_loaded.Statement.{statement}
-use Rattle.covenant.proofs.token_records.decode_loaded.Tie as tie
+use Rattle.fields.proofs.Loaded.{decodes, loaded-few, refuses}
+use Rattle.fields.proofs.decode_loaded.Statement.{statement}
+use Rattle.fields.proofs.decode_loaded.Tie as tie
 
 pub decode-loaded-spec : {M : Type 1} → statement M
 decode-loaded-spec =

@@ -1,0 +1,2 @@
+-- Laws of what the specs of this crate define.
+pub mod Loaded
