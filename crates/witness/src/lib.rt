@@ -13,10 +13,15 @@ ghost use Rattle.witness.specs.Oracle.{Asks, Gives, afterPrice, afterSig
 
 // The parts of a check: key and time of the terminal, price and signature of the witness.
 const KEY_BYTES: usize = 32;
+
 const NUMBER_BYTES: usize = 8;
+
 const SIGNATURE_BYTES: usize = 64;
+
 const OPERAND_BYTES: usize = KEY_BYTES + NUMBER_BYTES;
+
 const SIGNATURE_AT: usize = OPERAND_BYTES + NUMBER_BYTES;
+
 pub const CHECK_BYTES: usize = SIGNATURE_AT + SIGNATURE_BYTES;
 
 // Prices from 2^63 on have no value.
