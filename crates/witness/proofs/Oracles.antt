@@ -13,7 +13,6 @@ use Rattle.slices.specs.Bytes.{Read64, bytesValue}
 use Rattle.slices.proofs.Bytes.{drop-take}
 use Rattle.semantics.specs.declared.Refusal.{Refusal}
 use Rattle.semantics.specs.declared.Value.{Value}
-use Rattle.semantics.specs.Evaluate.{endsSound}
 use Rattle.semantics.specs.Evaluation.{Outcome, State, checkBytes, err, ok, onward, outcome, pop}
 use Rattle.witness.specs.declared.Answered.{Answered}
 use Rattle.witness.specs.declared.Place.{Place}
