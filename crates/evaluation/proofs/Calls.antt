@@ -6,6 +6,7 @@ use mathlib.Core.List.{List, [], _∷_}
 use native.Mathlib.Omega.{arith}
 use borrow.Author.Tests.{le-leb, lt-leb}
 use lib.Dec.{leb}
+use lib.IntN.{ℤ}
 use lib.ListN.{length}
 use lib.Seq.{take-length}
 use Rattle.slices.specs.Bytes.{Bytes}
@@ -22,7 +23,7 @@ use Rattle.semantics.proofs.Passing.{answered-passed, answered-refused, passing
 use Rattle.semantics.proofs.Run.{run-code}
 use Rattle.condition.proofs.Onward.{accepted}
 use Rattle.witness.specs.Elements.{leftOf, stateOf}
-use Rattle.evaluation.specs.Run.{Answers, Bounded}
+use Rattle.evaluation.specs.Run.{Answers, Bounded, Fits}
 use Rattle.semantics.specs.Run.{Run, runStep}
 
 -- before the first step
@@ -82,3 +83,14 @@ pub bounded : (b : List ℕ) (n m size : ℕ) → checked b ≡ Checked.Passed n
 bounded b n m size e h =
     let a = accepted b n m e in
     record { last = a .last; walk = a .walk; tokens-are = a .tokens-are; few = a .few; room = omega (arith, a .oracles-are, h) }
+<<<<<<< HEAD
+=======
+
+-- arrays of so many operands are enough
+pub bounded-fits : {code : List ℕ} {tokens : ℕ} {values : List ℤ} {indexes out : List ℕ} → Bounded code tokens (length out)
+    → tokens ≤ length values → tokens ≤ length indexes → Fits code values indexes out
+bounded-fits b v i = record { last = b .last; walk = b .walk; values-fit = rw (b .tokens-are) v; indexes-fit = rw (b .tokens-are) i; room = b .room }
+
+pub few-oracles : (b : List ℕ) (n m : ℕ) → checked b ≡ Checked.Passed n m → m ≤ maxTokens
+few-oracles b n m e = let a = accepted b n m e in omega (arith, a .few, accepted-oracles b n m a)
+>>>>>>> e68129d63c490ef7368ec6b5f790c33566549273

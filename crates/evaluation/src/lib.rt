@@ -4,6 +4,7 @@ use semantics::Evaluated;
 use semantics::MAX_TOKENS;
 use semantics::Refusal;
 use semantics::Verdict;
+use witness::CHECK_BYTES;
 ghost use mathlib.Core.Bool.{true};
 ghost use mathlib.Core.Path.{_≡_};
 ghost use mathlib.Core.List.{[]};
@@ -130,7 +131,7 @@ pub fn evaluate(
             if !witness::ends_sound(ends, witness.len()) {
                 return refused(Refusal::WitnessUnsound, ends.len());
             }
-            if out.len() < 112 * oracles {
+            if out.len() < CHECK_BYTES * oracles {
                 return refused(Refusal::BufferTooShort, ends.len());
             }
             run_passed(

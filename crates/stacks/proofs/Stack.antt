@@ -4,6 +4,8 @@ use mathlib.Core.Path.{_≡_, refl, ap, ap₂}
 use mathlib.Core.List.{List, _∷_}
 use native.Mathlib.Numerals.{add-one}
 use native.Mathlib.Omega.{arith}
+use mir.Syntax.{w64}
+use mir.Val.{ofZ, toZ}
 use lib.IntN.{ℤ, pos}
 use lib.ListN.{length, getD, set}
 use lib.Seq.{getD-set-other, getD-set-same}
@@ -41,3 +43,15 @@ index-pushed indexes n m h =
     rw add-one
     (ap₂ _∷_ (ap pos (getD-set-same indexes n m 0 h))
     (stack-same (λ k. pos (getD (set indexes n m) k 0)) (λ k. pos (getD indexes k 0)) n λ k l. ap pos (getD-set-other indexes n k m 0 λ e. omega arith)))
+
+-- the values on top, as a callee is passed them: by their bits
+module _ (values : List ℤ) (n : ℕ) where
+  abbrev passed : ℕ → ℤ
+  passed k = toZ w64 (ofZ w64 (getD values k (pos 0)))
+
+  pub one-passed : 1 ≤ n → passed (n - 1) ≡ getD values (n - 1) (pos 0) → valuesIn values n ≡ passed (n - 1) ∷ valuesIn values (n - 1)
+  one-passed h p = rw p (stack-one (λ k. getD values k (pos 0)) n h)
+
+  pub two-passed : 2 ≤ n → passed (n - 1) ≡ getD values (n - 1) (pos 0) → passed (n - 2) ≡ getD values (n - 2) (pos 0)
+      → valuesIn values n ≡ passed (n - 1) ∷ passed (n - 2) ∷ valuesIn values (n - 2)
+  two-passed h p q = rw (p, q) (stack-two (λ k. getD values k (pos 0)) n h)

@@ -136,7 +136,7 @@ pub fn step(
             Effect::Turned(push_value(vals, Value::Number(z), values, indexes))
         }
         Command::CurrInputIdx => Effect::Amount(AmountList::Input, current, indexes),
-        Command::Lookup(list) => { Effect::Amount(list, last_index(idxs, indexes), indexes - 1) }
+        Command::Lookup(list) => Effect::Amount(list, last_index(idxs, indexes), indexes - 1),
         Command::Binary(op) => Effect::Turned(step_binary(op, vals, values, indexes)),
         Command::Unary(op) => Effect::Turned(step_unary(op, vals, values, indexes)),
         Command::PriceOracle1 => Effect::Oracle,

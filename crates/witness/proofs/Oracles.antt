@@ -13,55 +13,45 @@ use Rattle.slices.specs.Bytes.{Read64, bytesValue}
 use Rattle.slices.proofs.Bytes.{drop-take}
 use Rattle.semantics.specs.declared.Refusal.{Refusal}
 use Rattle.semantics.specs.declared.Value.{Value}
-use Rattle.semantics.specs.Evaluate.{endsSound}
 use Rattle.semantics.specs.Evaluation.{Outcome, State, checkBytes, err, ok, onward, outcome, pop}
 use Rattle.witness.specs.declared.Answered.{Answered}
 use Rattle.witness.specs.declared.Place.{Place}
-use Rattle.witness.specs.Elements.{popped, taken}
+use Rattle.witness.specs.declared.Taken.{Taken}
+use Rattle.witness.specs.Elements.{popped, stateOf, taken}
 use Rattle.witness.specs.Oracle.{Asks, Gives, afterSignature, checkOf, keyAt, priced, timeAt}
-use Rattle.witness.proofs.Elements.{pop-taken, taken-fewer}
+use Rattle.witness.proofs.Elements.{placeOutcome, pop-taken, taken-fewer, taken-within}
 
--- a pop, and then what is left to do with the element, if there is one
-module _ (w ends old : List ℕ) (left checks width : ℕ) (absent wrong : Refusal) (k : List ℕ → State → Outcome ℤ)
-    (sound : endsSound 0 (length w) ends ≡ true) (few : left ≤ length ends) where
-  abbrev top : Place
-  top = taken width absent wrong (popped ends left) .place
+-- an element is popped on the way to an oracle terminal's value, and must have a width
+pub record Pops (code : List ℕ) (at : ℕ) (w ends old : List ℕ) (left checks width : ℕ) (absent wrong : Refusal) (t : Taken) : Type 0 where
+  pub asks : Asks code at w ends old left checks
+  pub is : t ≡ taken width absent wrong (popped ends left)
 
-  abbrev fewer : ℕ
-  fewer = taken width absent wrong (popped ends left) .left
+-- then the terminal may go by the same, the element lies within the bytes, and what is left to do (k) is done with it, if there is one
+module _ {code : List ℕ} {at : ℕ} {w ends old : List ℕ} {left checks width : ℕ} {absent wrong : Refusal} {t : Taken}
+    (pops : Pops code at w ends old left checks width absent wrong t) where
+  fewer : t .left ≤ left
+  fewer = rw (pops .is) (taken-fewer ends left width absent wrong)
 
-  pub gives-found : (new : List ℕ) (p : ℕ) (r : Answered) → top ≡ Place.At p → Gives (k (take width (drop p w))) w ends old new fewer checks r
-      → Gives (λ st. onward (pop width absent wrong st) k) w ends old new left checks r
-  gives-found new p r e g =
-      record {
-        gives = rw (pop-taken w ends old sound left width checks absent wrong few, e) (g .gives);
-        fewer = omega (arith, g .fewer, taken-fewer ends left width absent wrong);
-        more = g .more;
-        one = g .one;
-        kept = g .kept;
-      }
+  pub pops-asks : Asks code at w ends old (t .left) checks
+  pops-asks =
+      let a = pops .asks in
+      record { operands = a .operands; room = a .room; few = omega (arith, a .few, fewer); sound = a .sound }
 
-  pub gives-refused : (x : Refusal) → top ≡ Place.Refused x
-      → Gives (λ st. onward (pop width absent wrong st) k) w ends old old left checks (record { value = Value.Refused x; left = fewer; checks = checks })
-  gives-refused x e =
-      record {
-        gives = rw (pop-taken w ends old sound left width checks absent wrong few, e);
-        fewer = taken-fewer ends left width absent wrong;
-        more = omega arith;
-        one = omega arith;
-        kept = refl;
-      }
+  pub pops-within : (p : ℕ) → t .place ≡ Place.At p → p + width ≤ length w
+  pops-within p e = taken-within w ends old (pops .asks .sound) left width p absent wrong (pops .asks .few) (rw (pops .is) at e)
 
--- what an oracle terminal may go by, it may go by after a pop
-pub asks-fewer : (code : List ℕ) (at : ℕ) (w ends out : List ℕ) (left checks width : ℕ) (absent wrong : Refusal) → Asks code at w ends out left checks
-    → Asks code at w ends out (taken width absent wrong (popped ends left) .left) checks
-asks-fewer code at w ends out left checks width absent wrong a =
-    record {
-      operands = a .operands;
-      room = a .room;
-      few = omega (arith, a .few, taken-fewer ends left width absent wrong);
-      sound = a .sound;
-    }
+  pop-is : pop width absent wrong (stateOf w ends old left checks) ≡ placeOutcome w ends old (pops .asks .sound) width checks (t .left) (t .place)
+  pop-is = rw (pops .is) (pop-taken w ends old (pops .asks .sound) left width checks absent wrong (pops .asks .few))
+
+  module _ (k : List ℕ → State → Outcome ℤ) where
+    pub pops-found : (new : List ℕ) (p : ℕ) (r : Answered) → t .place ≡ Place.At p → Gives (k (take width (drop p w))) w ends old new (t .left) checks r
+        → Gives (λ st. onward (pop width absent wrong st) k) w ends old new left checks r
+    pops-found new p r e g =
+        record { gives = rw (pop-is, e) (g .gives); fewer = omega (arith, g .fewer, fewer); more = g .more; one = g .one; kept = g .kept }
+
+    pub pops-refused : (x : Refusal) → t .place ≡ Place.Refused x
+        → Gives (λ st. onward (pop width absent wrong st) k) w ends old old left checks (record { value = Value.Refused x; left = t .left; checks = checks })
+    pops-refused x e = record { gives = rw (pop-is, e); fewer = fewer; more = omega arith; one = omega arith; kept = refl }
 
 -- the terminal's time
 time-at : (code : List ℕ) (at : ℕ) → drop 32 (take 40 (drop at code)) ≡ take 8 (drop (at + 32) code)

@@ -3,38 +3,54 @@ use semantics::Refusal;
 use semantics::Value;
 ghost use mathlib.Core.Bool.{true};
 ghost use mathlib.Core.Path.{_≡_};
-ghost use mathlib.Core.List.{_++_};
-ghost use Prim.Native.Nat.{_+_, _-_, _*_, _≤_, _<_};
+ghost use mathlib.Core.List.{List, _++_};
+ghost use Prim.Native.Nat.{ℕ, _+_, _-_, _*_, _≤_, _<_};
 ghost use lib.ListN.{length, take, drop};
 ghost use Rattle.semantics.specs.Evaluate.{endsSound};
 ghost use Rattle.semantics.specs.Evaluation.{oracle};
 ghost use Rattle.witness.specs.Elements.{fewer, popped, taken};
 ghost use Rattle.witness.specs.Oracle.{Asks, Gives, afterPrice, afterSignature, afterTime, checkOf, keyAt, priced, timeAt};
 
+// The parts of a check: key and time of the terminal, price and signature of the witness.
+const KEY_BYTES: usize = 32;
+
+const NUMBER_BYTES: usize = 8;
+
+const SIGNATURE_BYTES: usize = 64;
+
+const OPERAND_BYTES: usize = KEY_BYTES + NUMBER_BYTES;
+
+const SIGNATURE_AT: usize = OPERAND_BYTES + NUMBER_BYTES;
+
+pub const CHECK_BYTES: usize = SIGNATURE_AT + SIGNATURE_BYTES;
+
+// Prices from 2^63 on have no value.
+const PRICE_LIMIT: u64 = 0x8000_0000_0000_0000;
+
 // The elements of the witness that are left: lent, and popped in place.
-pub struct Witness {
+struct Witness {
     pub left: usize,
 }
 
 // Where an element that was popped starts and ends, if there was one.
-pub enum Element {
+enum Element {
     Missing,
     Span(usize, usize),
 }
 
 // An element that was popped, and how many are left.
-pub struct Popped {
+struct Popped {
     pub element: Element,
     pub left: usize,
 }
 
 // Where an element of the right width starts, or why there is none.
-pub enum Place {
+enum Place {
     At(usize),
     Refused(Refusal),
 }
 
-pub struct Taken {
+struct Taken {
     pub place: Place,
     pub left: usize,
 }
@@ -48,6 +64,7 @@ pub struct Answered {
 
 // ---- refusal 12
 
+// Whether no end lies before the one below it, nor after the last byte.
 pub fn ends_sound(ends: &[u32], size: usize) -> bool
     ensures { λ r. ⌜ r ≡ endsSound 0 size (now (ends .entry)) ⌝ }
 {
@@ -117,7 +134,7 @@ fn pop_at(ends: &[u32], left: usize) -> Popped
 
 // The top element, which must have a width; a popped element stays popped.
 fn take(ends: &[u32], left: usize, width: usize, absent: Refusal, wrong: Refusal) -> Taken
-    requires { ⌜ (left ≤ length (now ends)) × (width ≤ 64) ⌝ }
+    requires { ⌜ left ≤ length (now ends) ⌝ }
     ensures { λ r. ⌜ r ≡ taken width absent wrong (popped (now (ends .entry)) left) ⌝ }
 {
     let p = pop_at(ends, left);
@@ -163,17 +180,17 @@ fn list_check(
     requires { ⌜ (at + 40 ≤ length (now code)) × (price + 8 ≤ length (now witness)) × (signature + 64 ≤ length (now witness)) × (112 * n + 112 ≤ length (now out)) ⌝ }
     ensures { λ _. ⌜ now (out .exit) ≡ take (112 * n) (now (out .entry)) ++ checkOf (now (code .entry)) at (now (witness .entry)) price signature ++ drop (112 * n + 112) (now (out .entry)) ⌝ }
 {
-    let off = 112 * n;
-    slices::copy(code, at, out, off, 40);
-    slices::copy(witness, price, out, off + 40, 8);
-    slices::copy(witness, signature, out, off + 48, 64);
+    let off = CHECK_BYTES * n;
+    slices::copy(code, at, out, off, OPERAND_BYTES);
+    slices::copy(witness, price, out, off + OPERAND_BYTES, NUMBER_BYTES);
+    slices::copy(witness, signature, out, off + SIGNATURE_AT, SIGNATURE_BYTES);
 }
 
-// A price as a value: the numbers from 2^63 on have none.
+// A price as a value.
 fn price_value(price: u64) -> Value
     ensures { λ r. ⌜ r ≡ priced price ⌝ }
 {
-    if price < 0x8000_0000_0000_0000 {
+    if price < PRICE_LIMIT {
         Value::Number(price as i64)
     } else {
         Value::Refused(Refusal::PriceOverflow)
@@ -187,7 +204,6 @@ fn judge(
     code: &[u8],
     at: usize,
     witness: &[u8],
-    ends: &[u32],
     price: usize,
     time: usize,
     signature: usize,
@@ -195,10 +211,10 @@ fn judge(
     left: usize,
     checks: usize,
 ) -> Answered
-    requires { ⌜ Asks (now code) at (now witness) (now ends) (now out) left checks × (price + 8 ≤ length (now witness)) × (time + 8 ≤ length (now witness)) × (signature + 64 ≤ length (now witness)) ⌝ }
-    ensures { λ r. ⌜ Gives (afterSignature (keyAt (now (code .entry)) at) (timeAt (now (code .entry)) at) (take 8 (drop price (now (witness .entry)))) (take 8 (drop time (now (witness .entry)))) (take 64 (drop signature (now (witness .entry))))) (now (witness .entry)) (now (ends .entry)) (now (out .entry)) (now (out .exit)) left checks r ⌝ }
+    requires { ⌜ (at + 40 ≤ length (now code)) × (112 * checks + 112 ≤ length (now out)) × (price + 8 ≤ length (now witness)) × (time + 8 ≤ length (now witness)) × (signature + 64 ≤ length (now witness)) ⌝ }
+    ensures { λ r. ⌜ ((ends : List ℕ) → Gives (afterSignature (keyAt (now (code .entry)) at) (timeAt (now (code .entry)) at) (take 8 (drop price (now (witness .entry)))) (take 8 (drop time (now (witness .entry)))) (take 64 (drop signature (now (witness .entry))))) (now (witness .entry)) ends (now (out .entry)) (now (out .exit)) left checks r) ⌝ }
 {
-    if slices::read_le64(code, at + 32) < slices::read_le64(witness, time) {
+    if slices::read_le64(code, at + KEY_BYTES) < slices::read_le64(witness, time) {
         return Answered {
             value: Value::Refused(Refusal::TimestampInFuture),
             left,
@@ -231,7 +247,7 @@ fn after_time(
     let t = take(
         ends,
         left,
-        64,
+        SIGNATURE_BYTES,
         Refusal::MissingOracleSignature,
         Refusal::MalformedSig,
     );
@@ -241,7 +257,6 @@ fn after_time(
             code,
             at,
             witness,
-            ends,
             price,
             time,
             signature,
@@ -274,7 +289,7 @@ fn after_price(
     let t = take(
         ends,
         left,
-        8,
+        NUMBER_BYTES,
         Refusal::MissingTimestamp,
         Refusal::Timstamp8BytePush,
     );
@@ -305,7 +320,7 @@ pub fn ask(
     let t = take(
         ends,
         left,
-        8,
+        NUMBER_BYTES,
         Refusal::MissingPrice,
         Refusal::Price8BytePush,
     );

@@ -1,10 +1,13 @@
 -- Each refusal is a test's (`refused-first` to `refused-buffer`); what the run answers is the tree's (`answers`).
 use borrow.Author.Needs.{needs}
 use Prim.Native.Nat.{_<_}
-use mathlib.Core.Path.{sym, _∙_}
+use mathlib.Core.Path.{_≡_, sym, _∙_}
 use native.Mathlib.Omega.{arith}
 use borrow.Author.Tests.{not-false, not-true}
+use Rattle.slices.specs.Bytes.{Bytes}
 use Rattle.slices.proofs.Bytes.{all-of}
+use Rattle.semantics.specs.declared.Checked.{Checked}
+use Rattle.semantics.specs.Check.{checked}
 use Rattle.semantics.specs.Evaluate.{Lent}
 use Rattle.amounts.specs.Lists.{envOf}
 use Rattle.condition.proofs.Onward.{few-oracles}
@@ -12,59 +15,60 @@ use Rattle.evaluation.proofs.Calls.{answers, bounded, refused-amounts, 
 use Rattle.evaluation.proofs.evaluate.Statement.{statement}
 use Rattle.evaluation.proofs.evaluate.Tie as tie
 
+abbrev lent : tie.Start → Lent
+lent s =
+    let a = s .args in
+    record {
+      env = envOf (a .spent .now) (a .spent-marks .now) (a .outputs .now) (a .output-marks .now) (a .issued .now) (a .issued-marks .now) (a .reissued .now) (a .reissued-marks .now) (a .current);
+      witness = a .witness .now;
+      ends = a .ends .now;
+      buffer = a .out .now;
+    }
+
+abbrev begin : tie.After-amounts-sound → tie.Start
+begin m = m .before .before .before .before .before .before .before .before .before .before .before .before .before .before .before .before .before
+
+bytes : (m : tie.After-amounts-sound) → Bytes (begin m .args .code .now)
+bytes m = all-of (λ x. x < 256) (begin m .args .code .now) 0 (λ i. m .before .before .before .before .before .before .before .before .before .before .before .before .before .before .before .before .shared-slice-known .given i .fits)
+
+-- what Check answers
+passes : (m : tie.After-amounts-sound) → checked (begin m .args .code .now) ≡ Checked.Passed (m .before .before .tokens .given .0 .0) (m .before .before .tokens .given .0 .1 .0)
+passes m = sym (m .before .before .before .before .check .ensures) ∙ m .before .before .tokens .given .1
+
 returns : tie.Need-returns
 returns c =
-    let s = c .before .before .before .before .before .before .before .before .before .before .before .before .before .before .before .before .before .before .before in
-    let a = s .args in
-    let l : Lent = record { env = envOf (a .spent .now) (a .spent-marks .now) (a .outputs .now) (a .output-marks .now) (a .issued .now) (a .issued-marks .now) (a .reissued .now) (a .reissued-marks .now) (a .current); witness = a .witness .now; ends = a .ends .now; buffer = a .out .now } in
-    let checks = sym (c .before .before .before .before .before .before .check .ensures) ∙ c .before .before .before .before .tokens .given .1 in
-    rw (c .refused2 .ensures) (refused-amounts (a .code .now) (all-of (λ x. x < 256) (a .code .now) 0 (λ i. c .before .before .before .before .before .before .before .before .before .before .before .before .before .before .before .before .before .before .shared-slice-known .given i .fits)) l _ _ checks (sym (c .before .before .amounts-sound .ensures) ∙ not-true _ (c .before .if1 .taken)))
+    let m = c .before .before in
+    rw (c .refused2 .ensures) (refused-amounts (begin m .args .code .now) (bytes m) (lent (begin m)) _ _ (passes m) (sym (m .amounts-sound .ensures) ∙ not-true _ (c .before .if1 .taken)))
 
 returns-2 : tie.Need-returns-2
 returns-2 c =
-    let s = c .before .before .before .before .before .before .before .before .before .before .before .before .before .before .before .before .before .before .before .before .before in
-    let a = s .args in
-    let l : Lent = record { env = envOf (a .spent .now) (a .spent-marks .now) (a .outputs .now) (a .output-marks .now) (a .issued .now) (a .issued-marks .now) (a .reissued .now) (a .reissued-marks .now) (a .current); witness = a .witness .now; ends = a .ends .now; buffer = a .out .now } in
-    let checks = sym (c .before .before .before .before .before .before .before .before .check .ensures) ∙ c .before .before .before .before .before .before .tokens .given .1 in
-    rw (c .refused3 .ensures)
-    (refused-witness (a .code .now) (all-of (λ x. x < 256) (a .code .now) 0 (λ i. c .before .before .before .before .before .before .before .before .before .before .before .before .before .before .before .before .before .before .before .before .shared-slice-known .given i .fits)) l _ _ checks (sym (c .before .before .before .before .amounts-sound .ensures) ∙ not-false _ (c .before .before .before .if1 .left)) (sym (c .before .before .ends-sound .ensures) ∙ not-true _ (c .before .if2 .taken)))
-
-mul-if3 : tie.Need-mul-if3
-mul-if3 c =
-    let checks = sym (c .before .before .before .before .before .before .before .check .ensures) ∙ c .before .before .before .before .before .tokens .given .1 in
-    omega (arith, few-oracles (c .before .before .before .before .before .before .before .before .before .before .before .before .before .before .before .before .before .before .before .before .args .code .now) _ _ checks)
+    let m = c .before .before .before .before in
+    let amounts = sym (m .amounts-sound .ensures) ∙ not-false _ (c .before .before .before .if1 .left) in
+    rw (c .refused3 .ensures) (refused-witness (begin m .args .code .now) (bytes m) (lent (begin m)) _ _ (passes m) amounts (sym (c .before .before .ends-sound .ensures) ∙ not-true _ (c .before .if2 .taken)))
 
 returns-3 : tie.Need-returns-3
 returns-3 c =
-    let s = c .before .before .before .before .before .before .before .before .before .before .before .before .before .before .before .before .before .before .before .before .before .before in
-    let a = s .args in
-    let l : Lent = record { env = envOf (a .spent .now) (a .spent-marks .now) (a .outputs .now) (a .output-marks .now) (a .issued .now) (a .issued-marks .now) (a .reissued .now) (a .reissued-marks .now) (a .current); witness = a .witness .now; ends = a .ends .now; buffer = a .out .now } in
-    let checks = sym (c .before .before .before .before .before .before .before .before .before .check .ensures) ∙ c .before .before .before .before .before .before .before .tokens .given .1 in
-    rw (c .refused4 .ensures)
-    (refused-buffer (a .code .now) (all-of (λ x. x < 256) (a .code .now) 0 (λ i. c .before .before .before .before .before .before .before .before .before .before .before .before .before .before .before .before .before .before .before .before .before .shared-slice-known .given i .fits)) l _ _ checks (sym (c .before .before .before .before .before .amounts-sound .ensures) ∙ not-false _ (c .before .before .before .before .if1 .left)) (sym (c .before .before .before .ends-sound .ensures) ∙ not-false _ (c .before .before .if2 .left)) (c .before .if3 .taken))
+    let m = c .before .before .before .before .before in
+    let amounts = sym (m .amounts-sound .ensures) ∙ not-false _ (c .before .before .before .before .if1 .left) in
+    let ends = sym (c .before .before .before .ends-sound .ensures) ∙ not-false _ (c .before .before .if2 .left) in
+    rw (c .refused4 .ensures) (refused-buffer (begin m .args .code .now) (bytes m) (lent (begin m)) _ _ (passes m) amounts ends (c .before .if3 .taken))
 
 run-passed-requires : tie.Need-run-passed-requires
 run-passed-requires c κs =
-    let a = c .before .before .before .before .before .before .before .before .before .before .before .before .before .before .before .before .before .before .before .before .before .before .args in
-    let checks = sym (c .before .before .before .before .before .before .before .before .before .check .ensures) ∙ c .before .before .before .before .before .before .before .tokens .given .1 in
-    (sym (c .before .before .before .ends-sound .ensures) ∙ not-false _ (c .before .before .if2 .left), bounded (a .code .now) _ _ _ checks (c .before .if3 .left))
+    let m = c .before .before .before .before .before in
+    (sym (c .before .before .before .ends-sound .ensures) ∙ not-false _ (c .before .before .if2 .left), bounded (begin m .args .code .now) _ _ _ (passes m) (c .before .if3 .left))
 
 returns-4 : tie.Need-returns-4
 returns-4 c =
     let s = c .before .before .before .before .before .before .before .before .before .before .before .before .before .before .before .before .before in
-    let a = s .args in
-    let l : Lent = record { env = envOf (a .spent .now) (a .spent-marks .now) (a .outputs .now) (a .output-marks .now) (a .issued .now) (a .issued-marks .now) (a .reissued .now) (a .reissued-marks .now) (a .current); witness = a .witness .now; ends = a .ends .now; buffer = a .out .now } in
-    let checks = sym (c .before .before .before .before .check .ensures) ∙ c .before .before .r .given .1 in
-    rw (c .refused .ensures) (refused-first (a .code .now) l _ checks)
+    rw (c .refused .ensures) (refused-first (s .args .code .now) (lent s) _ (sym (c .before .before .before .before .check .ensures) ∙ c .before .before .r .given .1))
 
 returns-5 : tie.Need-returns-5
 returns-5 c =
-    let s = c .before .before .before .before .before .before .before .before .before .before .before .before .before .before .before .before .before .before .before .before .before .before .before .before .before in
-    let a = s .args in
-    let l : Lent = record { env = envOf (a .spent .now) (a .spent-marks .now) (a .outputs .now) (a .output-marks .now) (a .issued .now) (a .issued-marks .now) (a .reissued .now) (a .reissued-marks .now) (a .current); witness = a .witness .now; ends = a .ends .now; buffer = a .out .now } in
-    let checks = sym (c .before .before .before .before .before .before .before .before .before .before .before .before .check .ensures) ∙ c .before .before .before .before .before .before .before .before .before .before .tokens .given .1 in
-    answers (a .code .now) (all-of (λ x. x < 256) (a .code .now) 0 (λ i. c .before .before .before .before .before .before .before .before .before .before .before .before .before .before .before .before .before .before .before .before .before .before .before .before .shared-slice-known .given i .fits)) l _ _ checks (sym (c .before .before .before .before .before .before .before .before .amounts-sound .ensures) ∙ not-false _ (c .before .before .before .before .before .before .before .if1 .left)) (sym (c .before .before .before .before .before .before .ends-sound .ensures) ∙ not-false _ (c .before .before .before .before .before .if2 .left))
-    (c .before .before .before .before .if3 .left) _ (c .before .before .run-passed .ensures)
+    let m = c .before .before .before .before .before .before .before .before in
+    let amounts = sym (m .amounts-sound .ensures) ∙ not-false _ (c .before .before .before .before .before .before .before .if1 .left) in
+    let ends = sym (c .before .before .before .before .before .before .ends-sound .ensures) ∙ not-false _ (c .before .before .before .before .before .if2 .left) in
+    answers (begin m .args .code .now) (bytes m) (lent (begin m)) _ _ (passes m) amounts ends (c .before .before .before .before .if3 .left) _ (c .before .before .run-passed .ensures)
 
 pub evaluate-spec : {M : Type 1} → statement M
 evaluate-spec =
@@ -80,7 +84,7 @@ evaluate-spec =
     (λ c κs. search needs)
     (λ c κs. search needs)
     returns-2
-    mul-if3
+    (λ c. omega (arith, few-oracles _ _ _ (passes (c .before .before .before))))
     (λ c κs. search needs)
     returns-3
     run-passed-requires

@@ -6,32 +6,32 @@ use Rattle.witness.proofs.judge.Statement.{statement}
 use Rattle.witness.proofs.judge.Tie as tie
 
 returns : tie.Need-returns
-returns c =
-    let a = c .before .before .before .before .before .before .before .args in
-    judged-late (a .code .now) (a .at) (a .witness .now) (a .ends .now) (a .out .now) (a .price) (a .time) (a .signature) (a .left) (a .checks) _
+returns c ends =
+    let a = c .before .before .before .before .before .before .args in
+    judged-late (a .code .now) (a .at) (a .witness .now) ends (a .out .now) (a .price) (a .time) (a .signature) (a .left) (a .checks) _
     (c .before .before .read-le64 .ensures) (rw (c .before .read-le642 .ensures .value) at (c .if1 .taken))
 
 returns-2 : tie.Need-returns-2
-returns-2 c =
-    let p = c .before .before .before .before .before .before .before .before .before .before .before .before .before in
+returns-2 c ends =
+    let p = c .before .before .before .before .before .before .before .before .before .before .before .before in
     let a = p .args in
     let r = p .pre in
     let intime = rw (c .before .before .before .before .before .before .before .read-le642 .ensures .value) at (c .before .before .before .before .before .before .if1 .left) in
     rw (c .before .before .before .before .list-check .ensures)
-    (judged-listed (a .code .now) (a .at) (a .witness .now) (a .ends .now) (a .out .now) (a .price) (a .time) (a .signature) (a .left) (a .checks) _ (c .before .before .before .before .before .before .before .before .read-le64 .ensures)
-    (r .0 .room) (r .0 .operands) (r .1) (r .3) intime _ (c .before .read-le643 .ensures .value) _ (c .price-value .ensures))
+    (judged-listed (a .code .now) (a .at) (a .witness .now) ends (a .out .now) (a .price) (a .time) (a .signature) (a .left) (a .checks) _ (c .before .before .before .before .before .before .before .before .read-le64 .ensures)
+    (r .1) (r .0) (r .2) (r .4) intime _ (c .before .read-le643 .ensures .value) _ (c .price-value .ensures))
 
 pub judge-spec : {M : Type 1} → statement M
 judge-spec =
     tie.close
     (tie.spec
-    (λ c. omega (arith, c .before .before .before .before .pre .0 .operands))
-    (λ c κs. omega (arith, c .before .before .before .before .pre .0 .operands))
+    (λ c. search needs)
+    (λ c κs. search needs)
     (λ c κs. search needs)
     returns
-    (λ c κs. let p = c .before .before .before .before .before .before .before .before .pre in (p .0 .operands, p .1, p .3, p .0 .room))
+    (λ c κs. let p = c .before .before .before .before .before .before .before .pre in (p .0, p .2, p .4, p .1))
     (λ c κs. search needs)
     (λ c κs. search needs)
-    (λ c. omega (arith, c .before .before .before .before .before .before .before .before .before .before .before .before .before .pre .0 .room))
+    (λ c. search needs)
     (λ c. search needs)
     returns-2)
