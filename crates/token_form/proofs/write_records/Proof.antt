@@ -44,8 +44,9 @@ module _ (a : tie.At-loop Inv-loop μ-loop) where
   bound : Bounds code marks old now (a .loop .at) (a .loop .count) (a .loop .n) (a .loop .k) (a .loop .inv)
   bound = bounds code marks old now (a .loop .at) (a .loop .count) (a .loop .n) (a .loop .k) (a .loop .inv) room
 
-  -- what is written lies within the buffers
+  -- what is written lies within the buffers, which have their lengths still
   record Reached : Type 0 where
+    lengths : Bounds code marks old now (a .loop .at) (a .loop .count) (a .loop .n) (a .loop .k) (a .loop .inv)
     kinds : a .loop .n ≤ length (a .loop .kinds)
     numbers : a .loop .n ≤ length (a .loop .numbers)
     places : a .loop .n ≤ length (a .loop .places)
@@ -54,6 +55,7 @@ module _ (a : tie.At-loop Inv-loop μ-loop) where
   reached : Reached
   reached =
       record {
+        lengths = bound;
         kinds = omega (arith, bound, room .kinds);
         numbers = omega (arith, bound, room .numbers);
         places = omega (arith, bound, room .places);
@@ -94,20 +96,20 @@ write-records-spec =
     (λ c κs. search needs)
     (λ c. marked (c .before .before .before .before) (c .before .before .before .loop-test .taken))
     (λ c. omega (arith, operands (c .before .before .before .before) (c .before .before .before .loop-test .taken)))
-    (λ c. let b = reached (c .before .before .before .before) in let d = bound (c .before .before .before .before) in omega arith)
-    (λ c. let b = reached (c .before .before .before .before) in let d = bound (c .before .before .before .before) in omega arith)
-    (λ c. let b = reached (c .before .before .before .before) in let d = bound (c .before .before .before .before) in omega arith)
-    (λ c. let b = reached (c .before .before .before .before .before) in let d = bound (c .before .before .before .before .before) in omega arith)
-    (λ c. let b = reached (c .before .before .before .before .before) in let d = bound (c .before .before .before .before .before) in omega arith)
-    (λ c. let b = reached (c .before .before .before .before .before) in let d = bound (c .before .before .before .before .before) in omega arith)
-    (λ c. let b = reached (c .before .before .before .before .before) in let d = bound (c .before .before .before .before .before) in omega arith)
-    (λ c. let b = reached (c .before .before .before .before .before .before) in let d = bound (c .before .before .before .before .before .before) in omega arith)
-    (λ c. let b = reached (c .before .before .before .before .before .before) in let d = bound (c .before .before .before .before .before .before) in omega arith)
-    (λ c. let b = reached (c .before .before .before .before .before .before) in let d = bound (c .before .before .before .before .before .before) in omega arith)
-    (λ c. let b = reached (c .before .before .before .before .before .before) in let d = bound (c .before .before .before .before .before .before) in omega arith)
-    (λ c. let b = reached (c .before .before .before .before .before .before .before) in let d = bound (c .before .before .before .before .before .before .before) in omega arith)
-    (λ c. let b = reached (c .before .before .before .before .before .before .before) in let d = bound (c .before .before .before .before .before .before .before) in omega arith)
-    (λ c. let b = reached (c .before .before .before .before .before .before .before) in let d = bound (c .before .before .before .before .before .before .before) in omega arith)
+    (λ c. omega (arith, reached (c .before .before .before .before)))
+    (λ c. omega (arith, reached (c .before .before .before .before)))
+    (λ c. omega (arith, reached (c .before .before .before .before)))
+    (λ c. omega (arith, reached (c .before .before .before .before .before)))
+    (λ c. omega (arith, reached (c .before .before .before .before .before)))
+    (λ c. omega (arith, reached (c .before .before .before .before .before)))
+    (λ c. omega (arith, reached (c .before .before .before .before .before)))
+    (λ c. omega (arith, reached (c .before .before .before .before .before .before)))
+    (λ c. omega (arith, reached (c .before .before .before .before .before .before)))
+    (λ c. omega (arith, reached (c .before .before .before .before .before .before)))
+    (λ c. omega (arith, reached (c .before .before .before .before .before .before)))
+    (λ c. omega (arith, reached (c .before .before .before .before .before .before .before)))
+    (λ c. omega (arith, reached (c .before .before .before .before .before .before .before)))
+    (λ c. omega (arith, reached (c .before .before .before .before .before .before .before)))
     (λ c κs. rw (c .before .before .before .before .before .command-of .ensures) ((command-known (code (c .before .before .before .before .before .before .before .before)) (marks (c .before .before .before .before .before .before .before .before)) (old (c .before .before .before .before .before .before .before .before)) (now (c .before .before .before .before .before .before .before .before)) (c .before .before .before .before .before .before .before .before .loop .at) (c .before .before .before .before .before .before .before .before .loop .count) (c .before .before .before .before .before .before .before .before .loop .n) (c .before .before .before .before .before .before .before .before .loop .k) (c .before .before .before .before .before .before .before .before .loop .inv) (c .before .before .before .before .before .before .before .loop-test .taken), operands (c .before .before .before .before .before .before .before .before) (c .before .before .before .before .before .before .before .loop-test .taken), omega (arith, key-bytes (c .before .before .before .before .before .before .before .before) (c .before .before .before .before .before .before .before .loop-test .taken))), room-left (code (c .before .before .before .before .before .before .before .before)) (marks (c .before .before .before .before .before .before .before .before)) (old (c .before .before .before .before .before .before .before .before)) (now (c .before .before .before .before .before .before .before .before)) (c .before .before .before .before .before .before .before .before .loop .at) (c .before .before .before .before .before .before .before .before .loop .count) (c .before .before .before .before .before .before .before .before .loop .n) (c .before .before .before .before .before .before .before .before .loop .k) (c .before .before .before .before .before .before .before .before .loop .inv) (c .before .before .before .before .before .before .before .loop-test .taken) (room (c .before .before .before .before .before .before .before .before))))
     (λ c. omega (arith, tokens (c .before .before .before .before .before .before .before .before .before .before .before .before .before .before .before .before .before .before) (c .before .before .before .before .before .before .before .before .before .before .before .before .before .before .before .before .before .loop-test .taken), rw (c .before .before .before .before .before .before .before .before .before .before .before .before .before .before .before .command-of .ensures) at (c .before .before .before .before .before .before .before .before .before .write-command .ensures .0 .0), c .before .before .before .before .before .before .before .before .before .before .before .before .before .before .before .before .before .before .before .before .before .before .before .before .before .good))
     (λ c. omega (arith, key-bytes (c .before .before .before .before .before .before .before .before .before .before .before .before .before .before .before .before .before .before .before) (c .before .before .before .before .before .before .before .before .before .before .before .before .before .before .before .before .before .before .loop-test .taken), rw (c .before .before .before .before .before .before .before .before .before .before .before .before .before .before .before .before .command-of .ensures) at (c .before .before .before .before .before .before .before .before .before .before .write-command .ensures .0 .1)))
