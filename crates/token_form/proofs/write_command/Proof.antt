@@ -43,7 +43,7 @@ returns c =
     let key = c .before .before .write-key .ensures in (
       (counted told, rw (key-is s) (key .0)),
       row-leaves (s .args .command) (s .pre .0 .0) (operands s) (s .args .marked) _ (told .before .before .run-of .ensures) _ (told .count-of .ensures) _ _ (s .args .place) _ _
-      (c .before .before .before .before .before .before .before .before .before .before .before .before .before .before .before .numbers-of .ensures) (row .0) (row .1 .0) (row .1 .1) (key .1),
+          (c .before .before .before .before .before .before .before .before .before .before .before .before .before .before .before .numbers-of .ensures) (row .0) (row .1 .0) (row .1 .1) (key .1),
     )
 
 pub write-command-spec : {M : Type 1} → statement M
@@ -56,10 +56,10 @@ write-command-spec =
     (λ c. search needs)
     (λ c. omega (arith, c .before .before .before .before .before .before .before .before .before .before .pre .0 .2))
     (λ c κs.
-      let s = c .before .before .before .before .before .before .before .before .before .before .before .before .before in
-      let told = c .before .before .before .before .before in
-      row-asks (s .args .command) (s .pre .0 .0) (operands s) (s .args .marked) (told .before .before .run-of .result) (told .before .before .run-of .ensures) (told .count-of .result) (told .count-of .ensures) _
-      (s .pre .1))
+    let s = c .before .before .before .before .before .before .before .before .before .before .before .before .before in
+    let told = c .before .before .before .before .before in
+    row-asks (s .args .command) (s .pre .0 .0) (operands s) (s .args .marked) (told .before .before .run-of .result) (told .before .before .run-of .ensures) (told .count-of .result) (told .count-of .ensures) _
+    (s .pre .1))
     (λ c κs. let s = c .before .before .before .before .before .before .before .before .before .before .before .before .before .before .before .before .before .before .before .before .before in (s .pre .0 .1, rw (key-is s) at (s .pre .1 .keys)))
     (λ c. search needs)
     (λ c. search needs)
