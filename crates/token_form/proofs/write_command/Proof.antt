@@ -1,25 +1,48 @@
 -- The row is the command's, its numbers and key are read from the code, and together they are the command's tokens (`row-leaves`).
 use borrow.Author.Needs.{needs}
-use mathlib.Core.List.{[]}
+use Prim.Native.Nat.{ℕ}
+use mathlib.Core.Path.{_≡_}
+use mathlib.Core.List.{List, []}
 use native.Mathlib.Omega.{arith}
+use lib.ListN.{length}
+use Rattle.semantics.specs.Operations.{Token}
 use Rattle.conversions.specs.Operands.{operandBytes}
+use Rattle.token_table.specs.Runs.{run}
+use Rattle.token_form.specs.Storing.{keysOf}
+use Rattle.token_form.specs.Fields.{payload}
 use Rattle.token_form.proofs.Rows.{run-keys, run-short}
 use Rattle.token_form.proofs.Storing.{row-asks, row-leaves, records-are}
 use Rattle.token_form.proofs.write_command.Statement.{statement}
 use Rattle.token_form.proofs.write_command.Tie as tie
 
+-- the command's operand bytes, tokens and key
+module _ (s : tie.Start) where
+  abbrev operands : List ℕ
+  operands = operandBytes (s .args .command) (s .args .code .now) (s .args .at)
+
+  abbrev tokens : List Token
+  tokens = run (s .args .command) operands (s .args .marked)
+
+  key-is : keysOf tokens ≡ payload (s .args .command) operands .key
+  key-is = run-keys (s .args .command) (s .pre .0 .0) operands (s .args .marked)
+
+abbrev begin : tie.After-count-of → tie.Start
+begin a = a .before .before .before .before .before .before .before .before
+
+-- `records` is the number of its tokens, and there is room for so many
+counted : (a : tie.After-count-of) → a .count-of .result ≡ length (tokens (begin a))
+counted a =
+    let s = begin a in
+    records-are (s .args .command) (s .pre .0 .0) (operands s) (s .args .marked) _ (a .before .before .run-of .ensures) _ (a .count-of .ensures)
+
 returns : tie.Need-returns
 returns c =
     let s = c .before .before .before .before .before .before .before .before .before .before .before .before .before .before .before .before .before .before .before .before .before .before .before .before in
-    let a = s .args in
-    let n = operandBytes (a .command) (a .code .now) (a .at) in
+    let told = c .before .before .before .before .before .before .before .before .before .before .before .before .before .before .before .before in
     let row = c .before .before .before .before .before .before .before .before .before .before .write-row .ensures in
     let key = c .before .before .write-key .ensures in (
-      (
-        records-are (a .command) (s .pre .0 .0) n (a .marked) _ (c .before .before .before .before .before .before .before .before .before .before .before .before .before .before .before .before .before .before .run-of .ensures) _ (c .before .before .before .before .before .before .before .before .before .before .before .before .before .before .before .before .count-of .ensures),
-        rw (run-keys (a .command) (s .pre .0 .0) n (a .marked)) (key .0),
-      ),
-      row-leaves (a .command) (s .pre .0 .0) n (a .marked) _ (c .before .before .before .before .before .before .before .before .before .before .before .before .before .before .before .before .before .before .run-of .ensures) _ (c .before .before .before .before .before .before .before .before .before .before .before .before .before .before .before .before .count-of .ensures) _ _ (a .place) _ _
+      (counted told, rw (key-is s) (key .0)),
+      row-leaves (s .args .command) (s .pre .0 .0) (operands s) (s .args .marked) _ (told .before .before .run-of .ensures) _ (told .count-of .ensures) _ _ (s .args .place) _ _
           (c .before .before .before .before .before .before .before .before .before .before .before .before .before .before .before .numbers-of .ensures) (row .0) (row .1 .0) (row .1 .1) (key .1),
     )
 
@@ -32,8 +55,12 @@ write-command-spec =
     (λ c κs. c .before .before .before .before .before .before .before .before .pre .0 .1)
     (λ c. search needs)
     (λ c. omega (arith, c .before .before .before .before .before .before .before .before .before .before .pre .0 .2))
-    (λ c κs. row-asks (c .before .before .before .before .before .before .before .before .before .before .before .before .before .args .command) (c .before .before .before .before .before .before .before .before .before .before .before .before .before .pre .0 .0) (operandBytes (c .before .before .before .before .before .before .before .before .before .before .before .before .before .args .command) (c .before .before .before .before .before .before .before .before .before .before .before .before .before .args .code .now) (c .before .before .before .before .before .before .before .before .before .before .before .before .before .args .at)) (c .before .before .before .before .before .before .before .before .before .before .before .before .before .args .marked) (c .before .before .before .before .before .before .before .run-of .result) (c .before .before .before .before .before .before .before .run-of .ensures) (c .before .before .before .before .before .count-of .result) (c .before .before .before .before .before .count-of .ensures) _ (c .before .before .before .before .before .before .before .before .before .before .before .before .before .pre .1))
-    (λ c κs. (c .before .before .before .before .before .before .before .before .before .before .before .before .before .before .before .before .before .before .before .before .before .pre .0 .1, rw (run-keys (c .before .before .before .before .before .before .before .before .before .before .before .before .before .before .before .before .before .before .before .before .before .args .command) (c .before .before .before .before .before .before .before .before .before .before .before .before .before .before .before .before .before .before .before .before .before .pre .0 .0) (operandBytes (c .before .before .before .before .before .before .before .before .before .before .before .before .before .before .before .before .before .before .before .before .before .args .command) (c .before .before .before .before .before .before .before .before .before .before .before .before .before .before .before .before .before .before .before .before .before .args .code .now) (c .before .before .before .before .before .before .before .before .before .before .before .before .before .before .before .before .before .before .before .before .before .args .at)) (c .before .before .before .before .before .before .before .before .before .before .before .before .before .before .before .before .before .before .before .before .before .args .marked)) at (c .before .before .before .before .before .before .before .before .before .before .before .before .before .before .before .before .before .before .before .before .before .pre .1 .keys)))
+    (λ c κs.
+    let s = c .before .before .before .before .before .before .before .before .before .before .before .before .before in
+    let told = c .before .before .before .before .before in
+    row-asks (s .args .command) (s .pre .0 .0) (operands s) (s .args .marked) (told .before .before .run-of .result) (told .before .before .run-of .ensures) (told .count-of .result) (told .count-of .ensures) _
+    (s .pre .1))
+    (λ c κs. let s = c .before .before .before .before .before .before .before .before .before .before .before .before .before .before .before .before .before .before .before .before .before in (s .pre .0 .1, rw (key-is s) at (s .pre .1 .keys)))
     (λ c. search needs)
     (λ c. search needs)
     (λ c. search needs)

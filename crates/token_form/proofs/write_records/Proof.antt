@@ -1,15 +1,16 @@
 -- The invariant: the tokens of the commands so far are written, and those to come are the rest (`Progress`).
 use borrow.Author.Needs.{needs}
 use Prim.Native.Nat.{ℕ, _+_, _-_, _<_, _≤_, _^_}
-use mathlib.Core.Bool.{Bool}
+use mathlib.Core.Bool.{Bool, true}
+use mathlib.Core.Path.{_≡_}
 use mathlib.Core.List.{List}
 use native.Mathlib.Omega.{arith}
 use lib.ListN.{length}
-use Rattle.semantics.specs.Code.{commandRow}
+use Rattle.semantics.specs.Code.{commandRow, known}
 use Rattle.semantics.specs.Operations.{Token}
 use Rattle.semantics.specs.Records.{Records, recordsOf}
 use Rattle.token_form.specs.Storing.{Room, emitted, keysOf}
-use Rattle.token_form.proofs.Storing.{Bounds, Progress, all-done, bounds, command-known, command-operands, mark-inside, more-keys, more-tokens, none-yet, one-more, room-left, tokensHere}
+use Rattle.token_form.proofs.Storing.{Bounds, Progress, all-done, bounds, command-known, command-operands, lent, mark-inside, more-keys, more-tokens, none-yet, one-more, room-left, tokensHere}
 use Rattle.token_form.proofs.write_records.Statement.{statement}
 use Rattle.token_form.proofs.write_records.Tie as tie
 use Rattle.semantics.specs.Parse.{commandAt}
@@ -23,29 +24,30 @@ abbrev μ-loop : tie.MeasureT-loop
 
 -- in a turn
 module _ (a : tie.At-loop Inv-loop μ-loop) where
+  abbrev begin : tie.Start Inv-loop μ-loop
+  begin = a .before .before .before .before .before .before .before
+
   abbrev code : List ℕ
-  code = a .before .before .before .before .before .before .before .args .code .now
+  code = begin .args .code .now
 
   abbrev marks : List Bool
-  marks = a .before .before .before .before .before .before .before .args .marks .now
+  marks = begin .args .marks .now
 
   abbrev old : Records
-  old = recordsOf (a .before .before .before .before .before .before .before .args .kinds .now) (a .before .before .before .before .before .before .before .args .numbers .now) (a .before .before .before .before .before .before .before .args .places .now) (a .before .before .before .before .before .before .before .args .keys .now)
+  old = recordsOf (begin .args .kinds .now) (begin .args .numbers .now) (begin .args .places .now) (begin .args .keys .now)
 
   abbrev now : Records
   now = recordsOf (a .loop .kinds) (a .loop .numbers) (a .loop .places) (a .loop .keys)
 
-  abbrev Inside : Type 0
-  Inside = a .loop .at < length code
-
   room : Room (emitted code marks) old
-  room = a .before .before .before .before .before .before .before .pre .1
+  room = begin .pre .1
 
   bound : Bounds code marks old now (a .loop .at) (a .loop .count) (a .loop .n) (a .loop .k) (a .loop .inv)
   bound = bounds code marks old now (a .loop .at) (a .loop .count) (a .loop .n) (a .loop .k) (a .loop .inv) room
 
-  -- what is written lies within the buffers
+  -- what is written lies within the buffers, which have their lengths still
   record Reached : Type 0 where
+    lengths : Bounds code marks old now (a .loop .at) (a .loop .count) (a .loop .n) (a .loop .k) (a .loop .inv)
     kinds : a .loop .n ≤ length (a .loop .kinds)
     numbers : a .loop .n ≤ length (a .loop .numbers)
     places : a .loop .n ≤ length (a .loop .places)
@@ -54,34 +56,48 @@ module _ (a : tie.At-loop Inv-loop μ-loop) where
   reached : Reached
   reached =
       record {
+        lengths = bound;
         kinds = omega (arith, bound, room .kinds);
         numbers = omega (arith, bound, room .numbers);
         places = omega (arith, bound, room .places);
         keys = omega (arith, bound, room .keys);
       }
 
-  module _ (i : Inside) where
-    marked : a .loop .count < length marks
-    marked = mark-inside code marks old now (a .loop .at) (a .loop .count) (a .loop .n) (a .loop .k) (a .loop .inv) i
+-- in a turn whose command is read
+module _ (t : tie.After-command-of Inv-loop μ-loop) where
+  abbrev a : tie.At-loop Inv-loop μ-loop
+  a = t .before .before .before
 
-    operands : a .loop .at + 1 + commandRow (commandAt code (a .loop .at)) .width ≤ length code
-    operands = command-operands code marks old now (a .loop .at) (a .loop .count) (a .loop .n) (a .loop .k) (a .loop .inv) i
+  abbrev inside : a .loop .at < length (code a)
+  inside = t .before .before .loop-test .taken
 
-    abbrev here : List Token
-    here = tokensHere code marks old now (a .loop .at) (a .loop .count) (a .loop .n) (a .loop .k) (a .loop .inv) i
+  command-told : known (commandAt (code a) (a .loop .at)) ≡ true
+  command-told = command-known (code a) (marks a) (old a) (now a) (a .loop .at) (a .loop .count) (a .loop .n) (a .loop .k) (a .loop .inv) inside
 
-    tokens : a .loop .n + length here ≤ length (old .kinds)
-    tokens = omega (arith, more-tokens code marks old now (a .loop .at) (a .loop .count) (a .loop .n) (a .loop .k) (a .loop .inv) i, room .kinds)
+  operands : a .loop .at + 1 + commandRow (commandAt (code a) (a .loop .at)) .width ≤ length (code a)
+  operands = command-operands (code a) (marks a) (old a) (now a) (a .loop .at) (a .loop .count) (a .loop .n) (a .loop .k) (a .loop .inv) inside
 
-    key-bytes : a .loop .k + length (keysOf here) < 2 ^ 32
-    key-bytes =
-        omega (arith, more-keys code marks old now (a .loop .at) (a .loop .count) (a .loop .n) (a .loop .k) (a .loop .inv) i, a .before .before .before .before .before .before .before .pre .0 .1)
+  marked : a .loop .count < length (marks a)
+  marked = mark-inside (code a) (marks a) (old a) (now a) (a .loop .at) (a .loop .count) (a .loop .n) (a .loop .k) (a .loop .inv) inside
+
+  abbrev here : List Token
+  here = tokensHere (code a) (marks a) (old a) (now a) (a .loop .at) (a .loop .count) (a .loop .n) (a .loop .k) (a .loop .inv) inside
+
+  tokens : a .loop .n + length here ≤ length (old a .kinds)
+  tokens = omega (arith, more-tokens (code a) (marks a) (old a) (now a) (a .loop .at) (a .loop .count) (a .loop .n) (a .loop .k) (a .loop .inv) inside, room a .kinds)
+
+  key-bytes : a .loop .k + length (keysOf here) < 2 ^ 32
+  key-bytes = omega (arith, more-keys (code a) (marks a) (old a) (now a) (a .loop .at) (a .loop .count) (a .loop .n) (a .loop .k) (a .loop .inv) inside, begin a .pre .0 .1)
+
+  room-here : Room here (lent (code a) (marks a) (old a) (now a) (a .loop .at) (a .loop .count) (a .loop .n) (a .loop .k) (a .loop .inv) inside)
+  room-here = room-left (code a) (marks a) (old a) (now a) (a .loop .at) (a .loop .count) (a .loop .n) (a .loop .k) (a .loop .inv) inside (room a)
 
 loop-again : tie.Need-loop-again Inv-loop μ-loop
 loop-again c =
-    let known = c .before .before .before .before .before .before .before .before .before .before .before .before .before .before .before .before .before .command-of .ensures in
-    let took = c .before .before .before .before .before .before .before .before .before .before .before .write-command .ensures in
-    rw (c .width-of .ensures, known) (one-more (code (c .before .before .before .before .before .before .before .before .before .before .before .before .before .before .before .before .before .before .before .before)) (marks (c .before .before .before .before .before .before .before .before .before .before .before .before .before .before .before .before .before .before .before .before)) (old (c .before .before .before .before .before .before .before .before .before .before .before .before .before .before .before .before .before .before .before .before)) (now (c .before .before .before .before .before .before .before .before .before .before .before .before .before .before .before .before .before .before .before .before)) (c .before .before .before .before .before .before .before .before .before .before .before .before .before .before .before .before .before .before .before .before .loop .at) (c .before .before .before .before .before .before .before .before .before .before .before .before .before .before .before .before .before .before .before .before .loop .count) (c .before .before .before .before .before .before .before .before .before .before .before .before .before .before .before .before .before .before .before .before .loop .n) (c .before .before .before .before .before .before .before .before .before .before .before .before .before .before .before .before .before .before .before .before .loop .k) (c .before .before .before .before .before .before .before .before .before .before .before .before .before .before .before .before .before .before .before .before .loop .inv) (c .before .before .before .before .before .before .before .before .before .before .before .before .before .before .before .before .before .before .before .loop-test .taken) _ _ _ (rw known at (took .0)) (rw known at (took .1)))
+    let t = c .before .before .before .before .before .before .before .before .before .before .before .before .before .before .before .before .before in
+    let told = t .command-of .ensures in
+    let wrote = c .before .before .before .before .before .before .before .before .before .before .before .write-command .ensures in
+    rw (c .width-of .ensures, told) (one-more (code (a t)) (marks (a t)) (old (a t)) (now (a t)) (a t .loop .at) (a t .loop .count) (a t .loop .n) (a t .loop .k) (a t .loop .inv) (inside t) _ _ _ (rw told at (wrote .0)) (rw told at (wrote .1)))
 
 pub write-records-spec : {M : Type 1} → statement M
 write-records-spec =
@@ -92,30 +108,30 @@ write-records-spec =
     (λ c. none-yet (c .before .before .before .before .before .before .args .code .now) (c .before .before .before .before .before .before .args .marks .now) _ (c .before .before .before .before .before .before .pre .0 .0))
     (λ c. search needs)
     (λ c κs. search needs)
-    (λ c. marked (c .before .before .before .before) (c .before .before .before .loop-test .taken))
-    (λ c. omega (arith, operands (c .before .before .before .before) (c .before .before .before .loop-test .taken)))
-    (λ c. let b = reached (c .before .before .before .before) in let d = bound (c .before .before .before .before) in omega arith)
-    (λ c. let b = reached (c .before .before .before .before) in let d = bound (c .before .before .before .before) in omega arith)
-    (λ c. let b = reached (c .before .before .before .before) in let d = bound (c .before .before .before .before) in omega arith)
-    (λ c. let b = reached (c .before .before .before .before .before) in let d = bound (c .before .before .before .before .before) in omega arith)
-    (λ c. let b = reached (c .before .before .before .before .before) in let d = bound (c .before .before .before .before .before) in omega arith)
-    (λ c. let b = reached (c .before .before .before .before .before) in let d = bound (c .before .before .before .before .before) in omega arith)
-    (λ c. let b = reached (c .before .before .before .before .before) in let d = bound (c .before .before .before .before .before) in omega arith)
-    (λ c. let b = reached (c .before .before .before .before .before .before) in let d = bound (c .before .before .before .before .before .before) in omega arith)
-    (λ c. let b = reached (c .before .before .before .before .before .before) in let d = bound (c .before .before .before .before .before .before) in omega arith)
-    (λ c. let b = reached (c .before .before .before .before .before .before) in let d = bound (c .before .before .before .before .before .before) in omega arith)
-    (λ c. let b = reached (c .before .before .before .before .before .before) in let d = bound (c .before .before .before .before .before .before) in omega arith)
-    (λ c. let b = reached (c .before .before .before .before .before .before .before) in let d = bound (c .before .before .before .before .before .before .before) in omega arith)
-    (λ c. let b = reached (c .before .before .before .before .before .before .before) in let d = bound (c .before .before .before .before .before .before .before) in omega arith)
-    (λ c. let b = reached (c .before .before .before .before .before .before .before) in let d = bound (c .before .before .before .before .before .before .before) in omega arith)
-    (λ c κs. rw (c .before .before .before .before .before .command-of .ensures) ((command-known (code (c .before .before .before .before .before .before .before .before)) (marks (c .before .before .before .before .before .before .before .before)) (old (c .before .before .before .before .before .before .before .before)) (now (c .before .before .before .before .before .before .before .before)) (c .before .before .before .before .before .before .before .before .loop .at) (c .before .before .before .before .before .before .before .before .loop .count) (c .before .before .before .before .before .before .before .before .loop .n) (c .before .before .before .before .before .before .before .before .loop .k) (c .before .before .before .before .before .before .before .before .loop .inv) (c .before .before .before .before .before .before .before .loop-test .taken), operands (c .before .before .before .before .before .before .before .before) (c .before .before .before .before .before .before .before .loop-test .taken), omega (arith, key-bytes (c .before .before .before .before .before .before .before .before) (c .before .before .before .before .before .before .before .loop-test .taken))), room-left (code (c .before .before .before .before .before .before .before .before)) (marks (c .before .before .before .before .before .before .before .before)) (old (c .before .before .before .before .before .before .before .before)) (now (c .before .before .before .before .before .before .before .before)) (c .before .before .before .before .before .before .before .before .loop .at) (c .before .before .before .before .before .before .before .before .loop .count) (c .before .before .before .before .before .before .before .before .loop .n) (c .before .before .before .before .before .before .before .before .loop .k) (c .before .before .before .before .before .before .before .before .loop .inv) (c .before .before .before .before .before .before .before .loop-test .taken) (room (c .before .before .before .before .before .before .before .before))))
-    (λ c. omega (arith, tokens (c .before .before .before .before .before .before .before .before .before .before .before .before .before .before .before .before .before .before) (c .before .before .before .before .before .before .before .before .before .before .before .before .before .before .before .before .before .loop-test .taken), rw (c .before .before .before .before .before .before .before .before .before .before .before .before .before .before .before .command-of .ensures) at (c .before .before .before .before .before .before .before .before .before .write-command .ensures .0 .0), c .before .before .before .before .before .before .before .before .before .before .before .before .before .before .before .before .before .before .before .before .before .before .before .before .before .good))
-    (λ c. omega (arith, key-bytes (c .before .before .before .before .before .before .before .before .before .before .before .before .before .before .before .before .before .before .before) (c .before .before .before .before .before .before .before .before .before .before .before .before .before .before .before .before .before .before .loop-test .taken), rw (c .before .before .before .before .before .before .before .before .before .before .before .before .before .before .before .before .command-of .ensures) at (c .before .before .before .before .before .before .before .before .before .before .write-command .ensures .0 .1)))
-    (λ c. omega (arith, marked (c .before .before .before .before .before .before .before .before .before .before .before .before .before .before .before .before .before .before .before) (c .before .before .before .before .before .before .before .before .before .before .before .before .before .before .before .before .before .before .loop-test .taken), c .before .before .before .before .before .before .before .before .before .before .before .before .before .before .before .before .before .before .before .before .before .before .before .before .before .before .good))
-    (λ c. omega (arith, operands (c .before .before .before .before .before .before .before .before .before .before .before .before .before .before .before .before .before .before .before) (c .before .before .before .before .before .before .before .before .before .before .before .before .before .before .before .before .before .before .loop-test .taken), c .before .before .before .before .before .before .before .before .before .before .before .before .before .before .before .before .before .before .before .before .before .before .before .before .before .before .good))
+    (λ c. marked (c .before))
+    (λ c. omega (arith, operands (c .before)))
+    (λ c. omega (arith, reached (c .before .before .before .before)))
+    (λ c. omega (arith, reached (c .before .before .before .before)))
+    (λ c. omega (arith, reached (c .before .before .before .before)))
+    (λ c. omega (arith, reached (c .before .before .before .before .before)))
+    (λ c. omega (arith, reached (c .before .before .before .before .before)))
+    (λ c. omega (arith, reached (c .before .before .before .before .before)))
+    (λ c. omega (arith, reached (c .before .before .before .before .before)))
+    (λ c. omega (arith, reached (c .before .before .before .before .before .before)))
+    (λ c. omega (arith, reached (c .before .before .before .before .before .before)))
+    (λ c. omega (arith, reached (c .before .before .before .before .before .before)))
+    (λ c. omega (arith, reached (c .before .before .before .before .before .before)))
+    (λ c. omega (arith, reached (c .before .before .before .before .before .before .before)))
+    (λ c. omega (arith, reached (c .before .before .before .before .before .before .before)))
+    (λ c. omega (arith, reached (c .before .before .before .before .before .before .before)))
+    (λ c κs. let t = c .before .before .before .before .before in rw (t .command-of .ensures) ((command-told t, operands t, omega (arith, key-bytes t)), room-here t))
+    (λ c. let t = c .before .before .before .before .before .before .before .before .before .before .before .before .before .before .before in omega (arith, tokens t, rw (t .command-of .ensures) at (c .before .before .before .before .before .before .before .before .before .write-command .ensures .0 .0), begin (a t) .good))
+    (λ c. let t = c .before .before .before .before .before .before .before .before .before .before .before .before .before .before .before .before in omega (arith, key-bytes t, rw (t .command-of .ensures) at (c .before .before .before .before .before .before .before .before .before .before .write-command .ensures .0 .1)))
+    (λ c. let t = c .before .before .before .before .before .before .before .before .before .before .before .before .before .before .before .before in omega (arith, marked t, begin (a t) .good))
+    (λ c. let t = c .before .before .before .before .before .before .before .before .before .before .before .before .before .before .before .before in omega (arith, operands t, begin (a t) .good))
     (λ c κs. search needs)
-    (λ c. omega (arith, operands (c .before .before .before .before .before .before .before .before .before .before .before .before .before .before .before .before .before .before .before .before) (c .before .before .before .before .before .before .before .before .before .before .before .before .before .before .before .before .before .before .before .loop-test .taken), rw (c .before .before .before .before .before .before .before .before .before .before .before .before .before .before .before .before .before .command-of .ensures) at (c .width-of .ensures), c .before .before .before .before .before .before .before .before .before .before .before .before .before .before .before .before .before .before .before .before .before .before .before .before .before .before .before .good))
-    (λ c. omega (arith, operands (c .before .before .before .before .before .before .before .before .before .before .before .before .before .before .before .before .before .before .before .before) (c .before .before .before .before .before .before .before .before .before .before .before .before .before .before .before .before .before .before .before .loop-test .taken)))
+    (λ c. let t = c .before .before .before .before .before .before .before .before .before .before .before .before .before .before .before .before .before in omega (arith, operands t, rw (t .command-of .ensures) at (c .width-of .ensures), begin (a t) .good))
+    (λ c. omega (arith, operands (c .before .before .before .before .before .before .before .before .before .before .before .before .before .before .before .before .before)))
     loop-again
     (λ c. bound (c .before) .kinds)
     (λ c. bound (c .before) .numbers)

@@ -14,7 +14,7 @@ write-spec =
     (λ c. search needs)
     (λ c. search needs)
     (λ c κs. sym (c .before .before .before .before .before .before .before .check .ensures) ∙ c .before .before .before .before .before .tokens .given .1)
-    (λ c. refused-first (c .before .before .before .before .before .before .before .before .before .args .code .now) (recordsOf (c .before .before .before .before .before .before .before .before .before .args .kinds .now) (c .before .before .before .before .before .before .before .before .before .args .numbers .now) (c .before .before .before .before .before .before .before .before .before .args .places .now) (c .before .before .before .before .before .before .before .before .before .args .keys .now)) _ (sym (c .before .before .before .check .ensures) ∙ c .before .r .given .1))
+    (λ c. let s = c .before .before .before .before .before .before .before .before .before in refused-first (s .args .code .now) (recordsOf (s .args .kinds .now) (s .args .numbers .now) (s .args .places .now) (s .args .keys .now)) _ (sym (c .before .before .before .check .ensures) ∙ c .before .r .given .1))
     (λ c. search needs)
     (λ c. search needs)
     (λ c. search needs)

@@ -18,7 +18,7 @@ write-passed-spec =
     (λ c. c .before .before .before .before .before .before .before .before .before .before .write-with .ensures)
     (λ c. search needs)
     (λ c. search needs)
-    (λ c κs. let h = accepted (c .before .before .before .before .before .before .before .before .before .before .before .before .args .code .now) (c .before .before .before .before .before .before .before .before .before .before .before .before .args .tokens) (c .before .before .before .before .before .before .before .before .before .before .before .before .args .oracles) (c .before .before .before .before .before .before .before .before .before .before .before .before .pre) .few in (c .before .before .before .before .before .before .before .before .before .before .before .before .pre, h, h))
+    (λ c κs. let s = c .before .before .before .before .before .before .before .before .before .before .before .before in let h = accepted (s .args .code .now) (s .args .tokens) (s .args .oracles) (s .pre) .few in (s .pre, h, h))
     (λ c. search needs)
     (λ c. search needs)
     (λ c. search needs)

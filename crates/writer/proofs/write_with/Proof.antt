@@ -55,26 +55,32 @@ module _ (k : tie.After-shared-slice-known) where
       none-refused : (new : Records) → Stored (emitted code marks) 0 old new → Postcondition code old (Written.Records tokens (32 * oracles)) new
       none-refused = wrote code bytes old tokens oracles (k .before .pre .0) narrow roomy marks rest marked
 
--- 6 and 7 do not fall
-narrow-told : (c : tie.After-has-room) → narrowCode (code (c .before .before .before .before .before .before .before .before .before .before .before .before .before .before .before)) ≡ true
-narrow-told c = sym (c .before .before .before .before .before .before .mark .ensures .narrow-is) ∙ not-false _ (c .before .if1 .left)
+-- 6 does not fall
+abbrev begun : tie.After-has-room → tie.After-shared-slice-known
+begun h = h .before .before .before .before .before .before .before .before .before .before .before .before .before .before .before
+
+narrow-told : (h : tie.After-has-room) → narrowCode (code (begun h)) ≡ true
+narrow-told h = sym (h .before .before .before .before .before .before .mark .ensures .narrow-is) ∙ not-false _ (h .before .if1 .left)
 
 pub write-with-spec : {M : Type 1} → statement M
 write-with-spec =
     tie.close
     (tie.spec
-    (λ c κs. fits (code (c .before .before .before .before .before .before .before .before)) (tokens (c .before .before .before .before .before .before .before .before)) (oracles (c .before .before .before .before .before .before .before .before)) _ _ (c .before .before .before .before .before .before .before .before .before .pre .0) (c .before .before .before .before .before .before .before .before .before .pre .1) (c .before .before .before .before .before .before .before .before .before .pre .2))
+    (λ c κs. let k = c .before .before .before .before .before .before .before .before in fits (code k) (tokens k) (oracles k) _ _ (k .before .pre .0) (k .before .pre .1) (k .before .pre .2))
     (λ c. search needs)
     (λ c. search needs)
     (λ c. six (c .before .before .before .before .before .before .before .before .before .before .before .before .before .before) (sym (c .before .before .before .before .before .mark .ensures .narrow-is) ∙ not-true _ (c .if1 .taken)))
-    (λ c. omega (arith, few-oracles (code (c .before .before .before .before .before .before .before .before .before .before .before .before .before .before)) (tokens (c .before .before .before .before .before .before .before .before .before .before .before .before .before .before)) (oracles (c .before .before .before .before .before .before .before .before .before .before .before .before .before .before)) (c .before .before .before .before .before .before .before .before .before .before .before .before .before .before .before .pre .0)))
+    (λ c. let k = c .before .before .before .before .before .before .before .before .before .before .before .before .before .before in omega (arith, few-oracles (code k) (tokens k) (oracles k) (k .before .pre .0)))
     (λ c κs. search needs)
     (λ c. search needs)
     (λ c. search needs)
-    (λ c. seven (c .before .before .before .before .before .before .before .before .before .before .before .before .before .before .before .before) (narrow-told (c .before)) (sym (c .before .has-room .ensures) ∙ not-true _ (c .if2 .taken)))
+    (λ c. let h = c .before in seven (begun h) (narrow-told h) (sym (h .has-room .ensures) ∙ not-true _ (c .if2 .taken)))
     (λ c κs.
-    let q = fitting (c .before .before .before .before .before .before .before .before .before .before .before .before .before .before .before .before .before .before .before .before .before) (narrow-told (c .before .before .before .before .before .before)) (sym (c .before .before .before .before .before .before .has-room .ensures) ∙ not-false _ (c .before .before .before .before .before .if2 .left)) _ _ (c .before .before .before .before .before .before .before .before .before .before .before .before .mark .ensures .marked (not-false _ (c .before .before .before .before .before .before .before .if1 .left))) in
-    ((coded (code (c .before .before .before .before .before .before .before .before .before .before .before .before .before .before .before .before .before .before .before .before .before)) (tokens (c .before .before .before .before .before .before .before .before .before .before .before .before .before .before .before .before .before .before .before .before .before)) (oracles (c .before .before .before .before .before .before .before .before .before .before .before .before .before .before .before .before .before .before .before .before .before)) _ (c .before .before .before .before .before .before .before .before .before .before .before .before .before .before .before .before .before .before .before .before .before .before .pre .0) (omega (arith, c .before .before .before .before .before .before .before .before .before .before .before .before .before .before .before .before .before .before .before .before .before .before .pre .2)), q .0), q .1))
+    let h = c .before .before .before .before .before .before in
+    let k = begun h in
+    let marked = h .before .before .before .before .before .before .mark .ensures .marked (not-false _ (h .before .if1 .left)) in
+    let q = fitting k (narrow-told h) (sym (h .has-room .ensures) ∙ not-false _ (c .before .before .before .before .before .if2 .left)) _ _ marked in
+    ((coded (code k) (tokens k) (oracles k) _ (k .before .pre .0) (omega (arith, k .before .pre .2)), q .0), q .1))
     (λ c. search needs)
     (λ c. search needs)
     (λ c. search needs)
@@ -82,5 +88,7 @@ write-with-spec =
     (λ c. search needs)
     (λ c. search needs)
     (λ c.
-    none-refused (c .before .before .before .before .before .before .before .before .before .before .before .before .before .before .before .before .before .before .before .before .before .before .before .before .before .before .before .before .before .before) (narrow-told (c .before .before .before .before .before .before .before .before .before .before .before .before .before .before .before)) (sym (c .before .before .before .before .before .before .before .before .before .before .before .before .before .before .before .has-room .ensures) ∙ not-false _ (c .before .before .before .before .before .before .before .before .before .before .before .before .before .before .if2 .left)) _ _ (c .before .before .before .before .before .before .before .before .before .before .before .before .before .before .before .before .before .before .before .before .before .mark .ensures .marked (not-false _ (c .before .before .before .before .before .before .before .before .before .before .before .before .before .before .before .before .if1 .left))) _
+    let h = c .before .before .before .before .before .before .before .before .before .before .before .before .before .before .before in
+    let marked = h .before .before .before .before .before .before .mark .ensures .marked (not-false _ (h .before .if1 .left)) in
+    none-refused (begun h) (narrow-told h) (sym (h .has-room .ensures) ∙ not-false _ (c .before .before .before .before .before .before .before .before .before .before .before .before .before .before .if2 .left)) _ _ marked _
     (c .before .before .before .before .before .before .before .before .write-records .ensures)))
