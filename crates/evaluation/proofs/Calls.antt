@@ -14,7 +14,6 @@ use Rattle.semantics.specs.declared.Checked.{Checked}
 use Rattle.semantics.specs.declared.Refusal.{Refusal}
 use Rattle.semantics.specs.Check.{Condition, checked, condition, firstOf, unless}
 use Rattle.semantics.specs.Evaluate.{Evaluation, Lent, ended, endsSound, envSound, evaluated, evaluatedTree, initial, refusedCall, unlessRefused}
-use Rattle.semantics.specs.Code.{maxTokens}
 use Rattle.semantics.specs.Evaluation.{evalArith}
 use Rattle.semantics.specs.Oracle.{oracles}
 use Rattle.semantics.specs.Parse.{fold, instructions}
@@ -83,14 +82,8 @@ pub bounded : (b : List ℕ) (n m size : ℕ) → checked b ≡ Checked.Passed n
 bounded b n m size e h =
     let a = accepted b n m e in
     record { last = a .last; walk = a .walk; tokens-are = a .tokens-are; few = a .few; room = omega (arith, a .oracles-are, h) }
-<<<<<<< HEAD
-=======
 
 -- arrays of so many operands are enough
 pub bounded-fits : {code : List ℕ} {tokens : ℕ} {values : List ℤ} {indexes out : List ℕ} → Bounded code tokens (length out)
     → tokens ≤ length values → tokens ≤ length indexes → Fits code values indexes out
 bounded-fits b v i = record { last = b .last; walk = b .walk; values-fit = rw (b .tokens-are) v; indexes-fit = rw (b .tokens-are) i; room = b .room }
-
-pub few-oracles : (b : List ℕ) (n m : ℕ) → checked b ≡ Checked.Passed n m → m ≤ maxTokens
-few-oracles b n m e = let a = accepted b n m e in omega (arith, a .few, accepted-oracles b n m a)
->>>>>>> e68129d63c490ef7368ec6b5f790c33566549273
