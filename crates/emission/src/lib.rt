@@ -31,6 +31,22 @@ const PRICE_ORACLE_1: u8 = 32;
 
 const PRICE_ORACLE_1W: u8 = 33;
 
+// Bytes of a key, of a command with a number, and of one with a key and a time.
+const KEY_BYTES: usize = 32;
+
+const NUMBER_PIECE: usize = 9;
+
+const ORACLE_PIECE: usize = 41;
+
+// How far behind the first token of PriceOracle1 its time and key stand, and the same of PriceOracle1W.
+const TIME: usize = 2;
+
+const KEY: usize = 7;
+
+const TIME_W: usize = 3;
+
+const KEY_W: usize = 8;
+
 // A piece's command, 0 where it has none, and the place of its first token.
 pub struct Piece {
     pub command: u8,
@@ -79,16 +95,16 @@ fn size(command: u8) -> usize
         return 0;
     }
     if command == IDX_CONST {
-        return 9;
+        return NUMBER_PIECE;
     }
     if command == CONST {
-        return 9;
+        return NUMBER_PIECE;
     }
     if command == PRICE_ORACLE_1 {
-        return 41;
+        return ORACLE_PIECE;
     }
     if command == PRICE_ORACLE_1W {
-        return 41;
+        return ORACLE_PIECE;
     }
     1
 }
@@ -143,7 +159,7 @@ fn put_number(code: &mut [u8], at: usize, command: u8, number: u64)
     requires { ⌜ (9 ≤ at) × (at ≤ length (now code)) ⌝ }
     ensures { λ _. ⌜ now (code .exit) ≡ put (now (code .entry)) at (command ∷ littleEndian 8 number) ⌝ }
 {
-    code[at - 9] = command;
+    code[at - NUMBER_PIECE] = command;
     slices::write_le64(code, at - 8, number);
 }
 
@@ -153,8 +169,8 @@ fn put_oracle(code: &mut [u8], at: usize, command: u8, keys: &[u8], place: usize
     ensures { λ _. ⌜ now (code .exit) ≡ put (now (code .entry)) at
         (command ∷ take 32 (drop place (now (keys .entry))) ++ littleEndian 8 time) ⌝ }
 {
-    code[at - 41] = command;
-    slices::copy(keys, place, code, at - 40, 32);
+    code[at - ORACLE_PIECE] = command;
+    slices::copy(keys, place, code, at - 40, KEY_BYTES);
     slices::write_le64(code, at - 8, time);
 }
 
@@ -176,8 +192,8 @@ fn put_piece(numbers: &[u64], places: &[u32], keys: &[u8], p: Piece, code: &mut 
             at,
             command,
             keys,
-            u32_to_usize(places[first + 7]),
-            numbers[first + 2],
+            u32_to_usize(places[first + KEY]),
+            numbers[first + TIME],
         );
         return;
     }
@@ -187,12 +203,12 @@ fn put_piece(numbers: &[u64], places: &[u32], keys: &[u8], p: Piece, code: &mut 
             at,
             command,
             keys,
-            u32_to_usize(places[first + 8]),
-            numbers[first + 3],
+            u32_to_usize(places[first + KEY_W]),
+            numbers[first + TIME_W],
         );
         return;
     }
-    if size(command) == 9 {
+    if size(command) == NUMBER_PIECE {
         put_number(code, at, command, numbers[first]);
         return;
     }
