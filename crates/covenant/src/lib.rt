@@ -11,7 +11,7 @@ ghost use Rattle.semantics.specs.Decode.{decoded};
 ghost use Rattle.semantics.specs.Evaluate.{evaluated};
 ghost use Rattle.semantics.specs.Meaning.{CallUnambiguous};
 ghost use Rattle.semantics.specs.Write.{Writes, writing, written};
-ghost use Rattle.operations.specs.Lists.{envOf};
+ghost use Rattle.amounts.specs.Lists.{envOf};
 ghost use Rattle.semantics.specs.Records.{recordsOf};
 ghost use Rattle.answers.specs.Answers.{checkAnswer, decodeAnswer, evaluateAnswer, writeAnswer};
 
