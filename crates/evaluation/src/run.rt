@@ -1,12 +1,10 @@
 // One pass over the commands of a condition that Check let pass.
-use amounts::looked_up;
 use semantics::AmountList;
 use semantics::Command;
 use semantics::Evaluated;
 use stacks::Effect;
 use stacks::Turn;
 use stacks::push_value;
-use witness::ask;
 ghost use mathlib.Core.Bool.{true};
 ghost use mathlib.Core.Path.{_≡_};
 ghost use mathlib.Core.List.{List, []};

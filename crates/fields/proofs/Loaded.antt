@@ -18,8 +18,8 @@ use Rattle.semantics.specs.Records.{Records}
 use Rattle.semantics.specs.Write.{Writes, Writing, roomFor, writing, written}
 use Rattle.records.specs.declared.TokenRecord.{TokenRecord}
 use Rattle.records.specs.Fields.{fieldsOf, kindsOf, numbersOf, placesOf, recordsFrom}
-use Rattle.records.proofs.Room.{too-many, writing-alike, writing-fits}
-use Rattle.records.proofs.Stored.{countOf, stored, stored-kept}
+use Rattle.semantics.proofs.Room.{countOf, too-many-records, writing-alike, writing-fits}
+use Rattle.records.proofs.Stored.{stored, stored-kept}
 use Rattle.answers.specs.declared.DecodeAnswer.{DecodeAnswer}
 use Rattle.answers.specs.declared.WriteAnswer.{WriteAnswer}
 use Rattle.answers.specs.Answers.{decodeAnswer, writeAnswer}
@@ -33,7 +33,7 @@ loaded-few count h = rw (le-leb count maxTokens h)
 module _ (rs : List TokenRecord) (keys old new : List ℕ) (r : DecodeAnswer) where
   pub refuses : maxTokens < length rs → r ≡ decodeAnswer (Decoded.Refused Refusal.TooManyRecords) → new ≡ old → DecodesRecords rs keys old new r
   refuses h e f =
-      let d : decoded (fieldsOf rs keys) old ≡ record { answer = Decoded.Refused Refusal.TooManyRecords; buffer = old } = too-many (fieldsOf rs keys) old (rw length-map h) in
+      let d : decoded (fieldsOf rs keys) old ≡ record { answer = Decoded.Refused Refusal.TooManyRecords; buffer = old } = too-many-records (fieldsOf rs keys) old (rw length-map h) in
       record { answer = rw d e; buffer = rw d f; unambiguous = λ few. absurd (omega (arith, h, few, length-map rs (λ (t : TokenRecord). t .kind))) }
 
   pub decodes : (kinds numbers places : List ℕ) (d : Decoded) (count : ℕ) → length rs ≡ count → count ≤ maxTokens → Loaded rs kinds numbers places

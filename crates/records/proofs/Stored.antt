@@ -1,5 +1,5 @@
 -- What Write wrote into lists of fields is, stored as records, what it owes of the records (`stored`).
-use Prim.Native.Nat.{ℕ, zero, suc, _≤_, _<_}
+use Prim.Native.Nat.{ℕ, zero, suc, _≤_}
 use mathlib.Core.Path.{_≡_, refl, ap, _∙_}
 use mathlib.Core.List.{List, [], _∷_, _++_, append-assoc, map, map-append}
 use native.Mathlib.Omega.{arith}
@@ -8,7 +8,9 @@ use lib.Seq.{drop-at, getD-take, length-take-le, take-at}
 use Rattle.semantics.specs.Evaluate.{over}
 use Rattle.semantics.specs.Records.{Records}
 use Rattle.semantics.specs.Token.{Token}
-use Rattle.semantics.specs.Write.{KeysPlaced, RecordsWritten, Writes, Writing}
+use Rattle.semantics.specs.Write.{RecordsWritten, Writes, Writing}
+use Rattle.semantics.proofs.Placing.{same-placed}
+use Rattle.semantics.proofs.Room.{countOf}
 use Rattle.records.specs.declared.TokenRecord.{TokenRecord}
 use Rattle.records.specs.Fields.{fieldsOf, kindsOf, numbersOf, placesOf, recordsFrom}
 use Rattle.records.proofs.Onto.{onto, onto-length, records-many}
@@ -57,21 +59,6 @@ written-front f ts old rest =
 
 written-long : (f : Token → ℕ) (ts : List Token) (old rest : List ℕ) → length ts ≤ length (over (map f ts) old ++ rest)
 written-long f ts old rest = simp (length-append, length-map) (omega arith)
-
--- keys stand by their places and their bytes alone
-same-placed : (ts : List Token) (n : ℕ) (r s : Records) → r .keys ≡ s .keys → ((i : ℕ) → i < length ts → getD (s .places) i 0 ≡ getD (r .places) i 0)
-    → KeysPlaced ts n r → KeysPlaced ts n s
-same-placed ts n r s k p w =
-    record {
-      whole = λ i h e. rw (p i h, ← k) (w .whole i h e);
-      apart = λ i j h l e f. rw (p i (omega arith), p j l) (w .apart i j h l e f);
-      unused = λ i h e. rw (p i h) (w .unused i h e);
-    }
-
--- how many records are written
-abbrev pub countOf : Writing → ℕ
-countOf (Writing.refused r) = 0
-countOf (Writing.writes ts n) = length ts
 
 module _ (rs : List TokenRecord) (old new : Records) (kinds numbers places : List ℕ) where
   -- the lists of fields begin with what was written

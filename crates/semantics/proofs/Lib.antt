@@ -14,6 +14,7 @@ pub mod CodeSize
 pub mod Placing
 pub mod Forms
 pub mod Records
+pub mod Room
 pub mod Meaning
 pub mod RoundTrip
 pub mod Run

@@ -97,3 +97,13 @@ no-shared-byte ts n r k i j h l e f a b p q s = go (k .apart i j h l e f)
 pub other-places : (ts : List Token) (n : ℕ) (r s : Records) → KeysPlaced ts n r → KeysPlaced ts n s → (i : ℕ) → i < length ts
     → (getD ts i (op 0) .kind ≡ 3 → ⊥) → getD (r .places) i 0 ≡ getD (s .places) i 0
 other-places ts n r s p q i h e = p .unused i h e ∙ sym (q .unused i h e)
+
+-- keys stand by their places and their bytes alone
+pub same-placed : (ts : List Token) (n : ℕ) (r s : Records) → r .keys ≡ s .keys → ((i : ℕ) → i < length ts → getD (s .places) i 0 ≡ getD (r .places) i 0)
+    → KeysPlaced ts n r → KeysPlaced ts n s
+same-placed ts n r s k p w =
+    record {
+      whole = λ i h e. rw (p i h, ← k) (w .whole i h e);
+      apart = λ i j h l e f. rw (p i (omega arith), p j l) (w .apart i j h l e f);
+      unused = λ i h e. rw (p i h) (w .unused i h e);
+    }

@@ -88,8 +88,8 @@ abbrev pub inFuture : ℕ → ℕ → Bool
 inFuture time witnessTime = ltb time witnessTime
 
 -- "a check of 112 bytes ..: key, the terminal's time, price, signature"
-abbrev pub checkBytes : List ℕ → ℕ → List ℕ → List ℕ → List ℕ → List ℕ
-checkBytes key time witnessTime price signature = key ++ littleEndian 8 time ++ price ++ signature
+abbrev pub checkBytes : List ℕ → ℕ → List ℕ → List ℕ → List ℕ
+checkBytes key time price signature = key ++ littleEndian 8 time ++ price ++ signature
 
 -- "pops price, then time (8 bytes each), then signature (64 bytes)"; "A price of 2^63 or more: 40"
 unfoldable pub oracle : List ℕ → ℕ → State → Outcome ℤ
@@ -97,7 +97,7 @@ oracle key time st =
     onward (pop 8 Refusal.MissingPrice Refusal.Price8BytePush st) λ price st₁.
     onward (pop 8 Refusal.MissingTimestamp Refusal.Timstamp8BytePush st₁) λ witnessTime st₂.
     onward (pop 64 Refusal.MissingOracleSignature Refusal.MalformedSig st₂) λ signature st₃.
-    let check = checkBytes key time witnessTime price signature in
+    let check = checkBytes key time price signature in
     let st₄ : State = record { checks = st₃ .checks + 1; written = st₃ .written ++ check; left = st₃ .left } in
     cond (inFuture time (bytesValue witnessTime)) (err Refusal.TimestampInFuture st₃)
     (cond (ltb (bytesValue price) (2 ^ 63)) (ok (pos (bytesValue price)) st₄) (err Refusal.PriceOverflow st₄))

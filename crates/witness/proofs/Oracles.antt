@@ -61,10 +61,10 @@ pub time-is : (code : List ℕ) (at t : ℕ) → Read64 code (at + 32) t → tim
 time-is code at t r = ap bytesValue (time-at code at) ∙ sym (r .value)
 
 -- the check is key, the terminal's time, price, signature
-check-is : (code : List ℕ) (at t : ℕ) (w : List ℕ) (p q : ℕ) (witnessTime : List ℕ) → Read64 code (at + 32) t
-    → checkBytes (keyAt code at) t witnessTime (take 8 (drop p w)) (take 64 (drop q w)) ≡ checkOf code at w p q
+check-is : (code : List ℕ) (at t : ℕ) (w : List ℕ) (p q : ℕ) → Read64 code (at + 32) t
+    → checkBytes (keyAt code at) t (take 8 (drop p w)) (take 64 (drop q w)) ≡ checkOf code at w p q
 unfolding checkOf
-check-is code at t w p q witnessTime r =
+check-is code at t w p q r =
     rw (r .bytes, ← time-at code at, take-append-drop 32 (take 40 (drop at code)))
     (append-assoc (take 40 (drop at code)) (take 8 (drop p w)) (take 64 (drop q w)))
 
@@ -135,7 +135,7 @@ module _ (code : List ℕ) (at : ℕ) (w ends old : List ℕ) (p t q left checks
           gives =
               rw (
                 time-is code at time terminal,
-                check-is code at time w p q (take 8 (drop t w)) terminal,
+                check-is code at time w p q terminal,
                 le-ltb time (bytesValue (take 8 (drop t w))) intime,
                 ← e,
                 is,

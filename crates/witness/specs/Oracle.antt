@@ -16,7 +16,7 @@ use Rattle.witness.specs.Elements.{stateOf}
 
 abbrev pub afterSignature : List ℕ → ℕ → List ℕ → List ℕ → List ℕ → State → Outcome ℤ
 afterSignature key time price witnessTime signature st =
-    let check = checkBytes key time witnessTime price signature in
+    let check = checkBytes key time price signature in
     let listed : State = record { checks = st .checks + 1; written = st .written ++ check; left = st .left } in
     cond (inFuture time (bytesValue witnessTime)) (err Refusal.TimestampInFuture st)
     (cond (ltb (bytesValue price) (2 ^ 63)) (ok (pos (bytesValue price)) listed) (err Refusal.PriceOverflow listed))

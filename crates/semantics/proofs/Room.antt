@@ -8,24 +8,29 @@ use borrow.Author.Tests.{leb-true, lt-leb}
 use lib.ListN.{length}
 use lib.Dec.{leb}
 use Rattle.slices.specs.Bytes.{Bytes}
 use Rattle.semantics.specs.declared.Decoded.{Decoded}
 use Rattle.semantics.specs.declared.Refusal.{Refusal}
 use Rattle.semantics.specs.Check.{Condition, condition, firstOf, unless}
 use Rattle.semantics.specs.Code.{maxTokens}
 use Rattle.semantics.specs.Decode.{decoded}
 use Rattle.semantics.specs.Oracle.{oracles}
 use Rattle.semantics.specs.Records.{Records}
 use Rattle.semantics.specs.Token.{form, narrow}
 use Rattle.semantics.specs.Trees.{Arith}
-use Rattle.semantics.specs.Write.{roomFor, writesUnless, writing, writingBy}
+use Rattle.semantics.specs.Write.{Writing, roomFor, writesUnless, writing, writingBy}
 use Rattle.semantics.proofs.Passing.{passing}
 use Rattle.semantics.proofs.Tests.{and-true}
-use Rattle.records.proofs.Stored.{countOf}
 
-pub too-many : (r : Records) (old : List ℕ) → maxTokens < length (r .kinds)
+-- 10 before 9, of an input that is too long to compute
+pub too-many-records : (r : Records) (old : List ℕ) → maxTokens < length (r .kinds)
     → decoded r old ≡ record { answer = Decoded.Refused Refusal.TooManyRecords; buffer = old }
 unfolding decoded
-too-many r old h = rw (lt-leb (length (r .kinds)) maxTokens h)
+too-many-records r old h = rw (lt-leb (length (r .kinds)) maxTokens h)
+
+-- how many records are written
+abbrev pub countOf : Writing → ℕ
+countOf (Writing.refused r) = 0
+countOf (Writing.writes ts n) = length ts
 
 pub writing-alike : (b : List ℕ) → Bytes b → (r s : Records) → ((t n : ℕ) → t ≤ maxTokens → roomFor t n r ≡ roomFor t n s) → writing b r ≡ writing b s
 unfolding writing
