@@ -6,7 +6,7 @@ use mathlib.Core.List.{List, [], _∷_, _++_}
 use native.Mathlib.Numerals.{add-one}
 use native.Mathlib.Omega.{arith}
 use borrow.Author.Tests.{leb-true}
-use lib.ListN.{length, take, drop, length-drop, length-set, set, take-append-drop}
+use lib.ListN.{getD, length, take, drop, length-drop, length-set, set, take-append-drop}
 use lib.Seq.{length-take-le, take-suc-set}
 use Rattle.slices.specs.Bytes.{All}
 use Rattle.slices.proofs.Bytes.{all-drop}
@@ -19,7 +19,7 @@ use Rattle.condition.specs.Walk.{next, start}
 use Rattle.conversions.specs.Marks.{Fits, Found, Marking, Ready, markStep, markingIn, marksOf, narrowCode, narrowStep, settled, stackIn}
 use Rattle.conversions.proofs.Ahead.{Ahead, ahead-below, ahead-next, ahead-start, passes-on}
 use Rattle.conversions.proofs.Narrow.{narrow-from}
-use Rattle.conversions.proofs.Waiting.{length-stack}
+use Rattle.slices.proofs.Stack.{length-stack}
 
 -- ---- one command
 
@@ -150,8 +150,8 @@ module _ (code waiting : List ℕ) (marks : List Bool) (at count indexes : ℕ) 
         let old = markingIn waiting indexes marks count in
         let n : length (take count marks) ≡ count = length-take-le count marks (l .passed) in
         let w : stackIn waiting′ indexes′ ≡ settled old command .waiting = ap (λ (m : Marking). m .waiting) s in
-        let k = settled-count command (l .here) old (length-stack waiting indexes ∙ sym (l .indexes-are)) (passes-on code (l .last) (l .here) at count (l .ahead) inside .met) in
-        let i : indexes′ ≡ next command (l .here) .indexes = sym (length-stack waiting′ indexes′) ∙ ap length w ∙ k .0 in
+        let k = settled-count command (l .here) old (length-stack (λ k. getD waiting k 0) indexes ∙ sym (l .indexes-are)) (passes-on code (l .last) (l .here) at count (l .ahead) inside .met) in
+        let i : indexes′ ≡ next command (l .here) .indexes = sym (length-stack (λ k. getD waiting′ k 0) indexes′) ∙ ap length w ∙ k .0 in
         let m : take (count + 1) (set marks′ count false) ≡ settled old command .marks ++ false ∷ [] =
         rw (add-one, take-suc-set marks′ count false (omega (arith, q, loop-below .0)), ap (λ (m : Marking). m .marks) s) in
         record {

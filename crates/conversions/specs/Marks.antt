@@ -1,10 +1,11 @@
 -- Which commands are marked, by one pass over the commands with the index operands that wait; and refusal 6 by the same pass.
-use Prim.Native.Nat.{ℕ, zero, suc, _<_, _≤_, _^_}
+use Prim.Native.Nat.{ℕ, _<_, _≤_, _^_}
 use mathlib.Core.Bool.{Bool, true, false, _&&_}
 use mathlib.Core.Path.{_≡_}
 use mathlib.Core.List.{List, [], _∷_, _++_}
 use lib.Dec.{ltb}
 use lib.ListN.{length, getD, take, drop, set}
+use Rattle.slices.specs.Stack.{stackOf}
 use Rattle.slices.specs.Bytes.{All, bytesValue}
 use Rattle.semantics.specs.declared.Command.{Command}
 use Rattle.semantics.specs.declared.IdxOp.{IdxOp}
@@ -71,8 +72,7 @@ narrowCode code = fold narrowStep true (instructions code)
 
 -- the first n numbers of an array, the last one first
 abbrev pub stackIn : List ℕ → ℕ → List ℕ
-stackIn array zero = []
-stackIn array (suc n) = getD array n 0 ∷ stackIn array n
+stackIn array n = stackOf (λ k. getD array k 0) n
 
 -- the state as the code holds it, after `count` commands with `indexes` operands that wait
 abbrev pub markingIn : List ℕ → ℕ → List Bool → ℕ → Marking

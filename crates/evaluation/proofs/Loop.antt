@@ -30,9 +30,10 @@ use Rattle.condition.proofs.Steps.{walkFrom}
 use Rattle.stacks.specs.declared.Turn.{Turn}
 use Rattle.witness.specs.Elements.{stateOf}
 use Rattle.evaluation.specs.Run.{Answers, Fits, Moves, Supplied}
-use Rattle.stacks.specs.Stacks.{Ready, concluded, indexesIn, runOf, stackOf, valuesIn}
+use Rattle.slices.specs.Stack.{stackOf}
+use Rattle.stacks.specs.Stacks.{Ready, concluded, indexesIn, runOf, valuesIn}
 use Rattle.witness.proofs.Elements.{left-count}
-use Rattle.stacks.proofs.Stack.{length-stack}
+use Rattle.slices.proofs.Stack.{length-stack}
 use Rattle.semantics.specs.Run.{Run, act, operand, pushIndex, pushValue, runStep}
 
 -- ---- how many wait after a command that goes on

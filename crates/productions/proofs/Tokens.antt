@@ -3,9 +3,9 @@ use Prim.Native.Nat.{ℕ, zero, suc, _+_, _-_, _<_, _≤_}
 use mathlib.Core.Path.{_≡_, refl, sym, ap, _∙_}
 use mathlib.Core.List.{List, [], _∷_, _++_, append-assoc, append-nil, reverse, reverse-append}
 use native.Mathlib.Nat.{add-zero, add-suc, suc-add, sub-zero, suc-sub-suc, zero-sub, zero-add}
-use native.Mathlib.Numerals.{sub-one}
 use native.Mathlib.Omega.{arith}
 use lib.ListN.{length, drop, getD, List·getD-eq-default}
+use Rattle.slices.proofs.Stack.{length-stack, stack-one}
 use Rattle.slices.specs.Bytes.{All}
 use Rattle.semantics.specs.Operations.{Token}
 use Rattle.semantics.specs.Records.{Records, tokenAt, tokenOf, tokens, tokensFrom}
@@ -13,13 +13,11 @@ use Rattle.productions.specs.Before.{before}
 
 pub before-step : (t : ℕ → Token) (n : ℕ) → (n ≡ 0 → ⊥) → before t n ≡ t (n - 1) ∷ before t (n - 1)
 unfolding before
-before-step t zero h = absurd (h refl)
-before-step t (suc n) h = rw (sub-one (suc n))
+before-step t n h = stack-one t n (omega arith)
 
 pub length-before : (t : ℕ → Token) (n : ℕ) → length (before t n) ≡ n
 unfolding before
-length-before t zero = refl
-length-before t (suc n) = ap suc (length-before t n)
+length-before t n = length-stack t n
 
 pub drop-before : (t : ℕ → Token) (k n : ℕ) → drop k (before t n) ≡ before t (n - k)
 unfolding before

@@ -1,14 +1,14 @@
 -- Token records as lent slices of numbers, and the tokens before a place, the last one first, as the definitions' readers take them.
-use Prim.Native.Nat.{ℕ, zero, suc, _+_, _≤_, _<_}
+use Prim.Native.Nat.{ℕ, _+_, _≤_, _<_}
 use mathlib.Core.Path.{_≡_}
-use mathlib.Core.List.{List, [], _∷_}
+use mathlib.Core.List.{List}
 use lib.ListN.{length, getD}
+use Rattle.slices.specs.Stack.{stackOf}
 use Rattle.semantics.specs.Operations.{Token}
 use Rattle.semantics.specs.Records.{recordsOf, tokenAt}
 
 unfoldable pub before : (ℕ → Token) → ℕ → List Token
-before t zero = []
-before t (suc n) = t n ∷ before t n
+before t n = stackOf t n
 
 -- the tokens of lent records before a place
 abbrev pub tokensBefore : List ℕ → List ℕ → List ℕ → List ℕ → ℕ → List Token

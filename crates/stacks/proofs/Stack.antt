@@ -1,6 +1,6 @@
 -- A stack that lies in an array.
-use Prim.Native.Nat.{ℕ, zero, suc, _+_, _-_, _≤_, _<_}
-use mathlib.Core.Path.{_≡_, refl, ap, ap₂}
+use Prim.Native.Nat.{ℕ, _+_, _-_, _≤_, _<_}
+use mathlib.Core.Path.{_≡_, ap, ap₂}
 use mathlib.Core.List.{List, _∷_}
 use native.Mathlib.Numerals.{add-one}
 use native.Mathlib.Omega.{arith}
@@ -9,27 +9,8 @@ use mir.Val.{ofZ, toZ}
 use lib.IntN.{ℤ, pos}
 use lib.ListN.{length, getD, set}
 use lib.Seq.{getD-set-other, getD-set-same}
-use Rattle.stacks.specs.Stacks.{indexesIn, stackOf, valuesIn}
-
-pub length-stack : (f : ℕ → ℤ) (n : ℕ) → length (stackOf f n) ≡ n
-length-stack f zero = refl
-length-stack f (suc n) = ap suc (length-stack f n)
-
-stack-same : (f g : ℕ → ℤ) (n : ℕ) → ((k : ℕ) → k < n → f k ≡ g k) → stackOf f n ≡ stackOf g n
-stack-same f g zero h = refl
-stack-same f g (suc n) h = ap₂ _∷_ (h n (omega arith)) (stack-same f g n λ k l. h k (omega arith))
-
-pub stack-one : (f : ℕ → ℤ) (n : ℕ) → 1 ≤ n → stackOf f n ≡ f (n - 1) ∷ stackOf f (n - 1)
-stack-one f zero h = absurd (omega arith)
-stack-one f (suc n) h = let e : suc n - 1 ≡ n = omega arith in rw e
-
-pub stack-two : (f : ℕ → ℤ) (n : ℕ) → 2 ≤ n → stackOf f n ≡ f (n - 1) ∷ f (n - 2) ∷ stackOf f (n - 2)
-stack-two f zero h = absurd (omega arith)
-stack-two f (suc zero) h = absurd (omega arith)
-stack-two f (suc (suc n)) h =
-    let e : suc (suc n) - 2 ≡ n = omega arith in
-    let g : suc (suc n) - 1 ≡ suc n = omega arith in
-    rw (e, g)
+use Rattle.slices.proofs.Stack.{stack-one, stack-same, stack-two}
+use Rattle.stacks.specs.Stacks.{indexesIn, valuesIn}
 
 -- an operand that is written on top
 pub value-pushed : (values : List ℤ) (n : ℕ) (z : ℤ) → n < length values → valuesIn (set values n z) (n + 1) ≡ z ∷ valuesIn values n

@@ -1,12 +1,13 @@
 -- The operands that wait as the code holds them, in two arrays, and what a command does with them: the machine of semantics/specs/Run.antt.
-use Prim.Native.Nat.{ℕ, zero, suc, _+_, _<_}
+use Prim.Native.Nat.{ℕ, _+_, _<_}
 use mathlib.Core.Bool.{Bool, true}
 use mathlib.Core.Logic.{_⊎_}
 use mathlib.Core.Option.{some}
 use mathlib.Core.Path.{_≡_}
-use mathlib.Core.List.{List, [], _∷_}
+use mathlib.Core.List.{List}
 use lib.IntN.{ℤ, pos}
 use lib.ListN.{length, getD, take, drop}
+use Rattle.slices.specs.Stack.{stackOf}
 use Rattle.slices.specs.Bytes.{bytesValue}
 use Rattle.semantics.specs.declared.Command.{Command}
 use Rattle.semantics.specs.declared.Verdict.{Verdict}
@@ -15,11 +16,6 @@ use Rattle.semantics.specs.Evaluation.{Env, Outcome, State, err, lookedUp, ok, 
 use Rattle.semantics.specs.Run.{Run, pushValue}
 use Rattle.stacks.specs.declared.Effect.{Effect}
 use Rattle.stacks.specs.declared.Turn.{Turn}
-
--- the first n operands of an array, the last one first
-abbrev pub stackOf : (ℕ → ℤ) → ℕ → List ℤ
-stackOf f zero = []
-stackOf f (suc n) = f n ∷ stackOf f n
 
 abbrev pub valuesIn : List ℤ → ℕ → List ℤ
 valuesIn values n = stackOf (λ k. getD values k (pos 0)) n

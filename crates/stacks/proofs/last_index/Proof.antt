@@ -2,7 +2,7 @@
 use borrow.Author.Needs.{needs}
 use lib.IntN.{pos}
 use lib.ListN.{getD}
-use Rattle.stacks.proofs.Stack.{stack-one}
+use Rattle.slices.proofs.Stack.{stack-one}
 use Rattle.stacks.proofs.last_index.Statement.{statement}
 use Rattle.stacks.proofs.last_index.Tie as tie
 
