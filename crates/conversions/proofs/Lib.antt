@@ -1,5 +1,4 @@
 -- Laws of the pass in specs/Marks.antt, one file a subject.
 pub mod Narrow
 pub mod Waiting
-pub mod Ahead
 pub mod Pass

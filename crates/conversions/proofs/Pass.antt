@@ -17,7 +17,7 @@ use Rattle.semantics.proofs.Machine.{fold-ends, fold-takes}
 use Rattle.summary.specs.declared.Summary.{Summary}
 use Rattle.condition.specs.Walk.{next, start}
 use Rattle.conversions.specs.Marks.{Fits, Found, Marking, Ready, markStep, markingIn, marksOf, narrowCode, narrowStep, settled, stackIn}
-use Rattle.conversions.proofs.Ahead.{Ahead, ahead-below, ahead-next, ahead-start, passes-on}
+use Rattle.condition.proofs.Ahead.{Ahead, ahead-below, ahead-next, ahead-start, passes-on}
 use Rattle.conversions.proofs.Narrow.{narrow-from}
 use Rattle.slices.proofs.Stack.{length-stack}
 

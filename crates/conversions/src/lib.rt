@@ -13,7 +13,7 @@ ghost use lib.ListN.{length};
 ghost use Rattle.semantics.specs.declared.Command.{Command};
 ghost use Rattle.semantics.specs.Code.{commandRow, maxTokens};
 ghost use Rattle.conversions.specs.Marks.{Fits, Found, Ready, converts, markingIn, narrowStep, settled, stackIn};
-ghost use Rattle.conversions.specs.Operands.{operandBytes};
+ghost use Rattle.semantics.specs.Parse.{operandBytes};
 
 // A Num holds less: 2^32.
 const NUM_LIMIT: u64 = 4294967296;

@@ -121,3 +121,7 @@ operandsAt c at = take (width (getD c at 0)) (drop (suc at) c)
 
 abbrev pub after : List ℕ → ℕ → ℕ
 after c at = at + 1 + width (getD c at 0)
+
+-- the operand bytes of a command that were found at a position: after its own byte they are `operandsAt`
+abbrev pub operandBytes : Command → List ℕ → ℕ → List ℕ
+operandBytes c code at = take (commandRow c .width) (drop at code)

@@ -20,10 +20,10 @@ use Rattle.summary.specs.declared.Summary.{Summary}
 use Rattle.condition.specs.Walk.{next, start}
 use Rattle.token_table.specs.declared.Run.{Run}
 use Rattle.token_form.specs.Fields.{bit, numberAt, payload, placeAt}
-use Rattle.conversions.specs.Operands.{operandBytes}
+use Rattle.semantics.specs.Parse.{operandBytes}
 use Rattle.token_table.specs.Runs.{run, runOf}
 use Rattle.token_form.specs.Storing.{Coded, Emission, Room, Stored, emitStep, emitted, keysOf, placesFrom}
-use Rattle.conversions.proofs.Ahead.{Ahead, ahead-below, ahead-known, ahead-next, ahead-start, passes-on}
+use Rattle.condition.proofs.Ahead.{Ahead, ahead-below, ahead-known, ahead-next, ahead-start, passes-on}
 use Rattle.token_form.proofs.Over.{length-over, over-lent, over-rest}
 use Rattle.semantics.proofs.Forms.{keys-append}
 use Rattle.token_form.proofs.Rows.{places-append, run-keys, run-kinds, run-length, run-numbers, run-places}

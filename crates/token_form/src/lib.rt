@@ -12,7 +12,7 @@ ghost use lib.ListN.{length, take};
 ghost use Rattle.semantics.specs.Code.{commandRow, known};
 ghost use Rattle.semantics.specs.Evaluate.{over};
 ghost use Rattle.token_form.specs.Fields.{bit, numberAt, payload, placeAt};
-ghost use Rattle.conversions.specs.Operands.{operandBytes};
+ghost use Rattle.semantics.specs.Parse.{operandBytes};
 ghost use Rattle.token_table.specs.Runs.{run};
 ghost use Rattle.semantics.specs.Records.{recordsOf};
 ghost use Rattle.token_form.specs.Storing.{Coded, Room, Stored, emitted, keysOf};

@@ -6,7 +6,7 @@ use mathlib.Core.List.{List, []}
 use native.Mathlib.Omega.{arith}
 use lib.ListN.{length}
 use Rattle.semantics.specs.Operations.{Token}
-use Rattle.conversions.specs.Operands.{operandBytes}
+use Rattle.semantics.specs.Parse.{operandBytes}
 use Rattle.token_table.specs.Runs.{run}
 use Rattle.token_form.specs.Storing.{keysOf}
 use Rattle.token_form.specs.Fields.{payload}
