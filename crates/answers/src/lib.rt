@@ -52,7 +52,7 @@ pub fn check_answer(answer: Checked) -> CheckAnswer
             place: 0,
         },
         Checked::Refused(r) => {
-            let refusal = semantics::number_of(r);
+            let refusal = refusals::number_of(r);
             CheckAnswer {
                 number: refusal.number,
                 place: refusal.first,
@@ -75,7 +75,7 @@ pub fn verdict_answer(verdict: Verdict, checks: u64, left: u64) -> EvaluateAnswe
             left,
         },
         Verdict::Refused(r) => {
-            let n = semantics::number_of(r);
+            let n = refusals::number_of(r);
             EvaluateAnswer {
                 number: n.number,
                 verdict: 0,
@@ -100,7 +100,7 @@ pub fn write_answer(answer: Written) -> WriteAnswer
             key_bytes: key_bytes as u64,
         },
         Written::Refused(r) => {
-            let n = semantics::number_of(r);
+            let n = refusals::number_of(r);
             WriteAnswer {
                 number: n.number,
                 place: n.first,
@@ -123,7 +123,7 @@ pub fn decode_answer(answer: Decoded) -> DecodeAnswer
             start: start as u64,
         },
         Decoded::Refused(r) => {
-            let n = semantics::number_of(r);
+            let n = refusals::number_of(r);
             DecodeAnswer {
                 number: n.number,
                 place: n.first,

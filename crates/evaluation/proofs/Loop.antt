@@ -11,7 +11,7 @@ use lib.IntN.{ℤ, pos}
 use lib.ListN.{length, take, drop, getD, length-drop, take-append-drop}
 use lib.Seq.{drop-drop, length-take-le}
 use Rattle.slices.specs.Bytes.{bytesValue}
-use Rattle.num64.specs.Steps.{inRange}
+use Rattle.index64.specs.Steps.{inRange}
 use Rattle.semantics.specs.declared.AmountList.{AmountList}
 use Rattle.semantics.specs.declared.Command.{Command}
 use Rattle.semantics.specs.declared.Verdict.{Verdict}

@@ -41,7 +41,7 @@ fn operands(refusal: u32, first: u64, second: u64) {
 }
 
 fn refused(r: Refusal) {
-    let n = semantics::number_of(r);
+    let n = refusals::number_of(r);
     text(b"refusal ");
     number(n.number as u64);
     operands(n.number, n.first, n.second);

@@ -1,21 +1,20 @@
 -- Laws on whole numbers that the proofs of several functions cite.
-use Prim.Native.Nat.{ℕ, zero, suc, _-_, _*_, _/_, _<_, _≤_, _^_, suc-le-suc}
+use Prim.Native.Nat.{ℕ, zero, suc, _-_, _*_, _<_, _≤_, _^_}
 use mathlib.Core.Path.{_≡_, refl, sym, ap, _∙_}
-use mathlib.Core.Bool.{Bool, true, false, cond}
 use mathlib.Core.Option.{none, some}
 use native.Mathlib.Omega.{arith}
-use lib.Dec.{ltb}
 use lib.IntN.{ℤ, pos, negsuc, negℤ, natAbs, _+ℤ_, _*ℤ_, negℤ-negℤ}
 use lib.Signed.{mag, natAbs-le, shrZ, mag-shr}
-use native.Mathlib.Nat.{lt-of-le-of-lt, add-zero, sub-zero, zero-lt-suc, le-div-iff-mul-le, div-lt-iff-lt-mul}
-use borrow.Author.Tests.{lt-ltb, le-ltb, ltb-false}
+use native.Mathlib.Nat.{lt-of-le-of-lt}
+use borrow.Author.Tests.{lt-ltb, le-ltb}
 use mir.Syntax.{w64}
 use mir.Val.{SFits, toZ, ofZ}
 use mir.Facts.{toZ-ofZ, toZ-neg}
 use Rattle.num64.specs.declared.Signed64.{Signed64}
 use Rattle.num64.specs.Exact.{signOf, fitted, remainder, checkedMul, checkedDiv, checkedRem}
 use Rattle.num64.proofs.Euclid.{rest-lt}
-use Rattle.num64.specs.Steps.{inRange, idxSub, idxMul}
+use Rattle.index64.specs.Steps.{idxMul}
+use Rattle.index64.proofs.Laws.{none-is, value-is}
 
 -- the bits of n, turned over, are those of -(n + 1)
 pub toZ-not : (n : ℕ) → n < 2 ^ 63 → toZ w64 (2 ^ 64 - 1 - n) ≡ negsuc n
@@ -49,33 +48,6 @@ passed-abs f e = e ∙ ap natAbs (toZ-ofZ f)
 pub abs-floor : (a : ℤ) → SFits w64 a → (d : ℕ) → natAbs (shrZ a d) ≤ 2 ^ 63
 abs-floor a f d = natAbs-le (shrZ a d) (lt-of-le-of-lt (mag-shr a d) (f .sfits))
 
--- ---- index steps
-
-pub in-range : (n : ℕ) → n < 2 ^ 64 → some (pos n) ≡ inRange (pos n)
-in-range n h = rw (lt-ltb n (2 ^ 64) h)
-
-pub out-of-range : (n : ℕ) → 2 ^ 64 ≤ n → none ≡ inRange (pos n)
-out-of-range n h = rw (le-ltb n (2 ^ 64) h)
-
-pub sub-in : (x y : ℕ) → y ≤ x → x < 2 ^ 64 → some (pos (x - y)) ≡ idxSub (pos x) (pos y)
-unfolding idxSub
-sub-in x zero h k = simp (sub-zero, add-zero) (in-range x k)
-sub-in x (suc y) h k = rw (le-ltb x (suc y) h) (in-range (x - suc y) (omega arith))
-
-pub sub-out : (x y : ℕ) → x < y → none ≡ idxSub (pos x) (pos y)
-unfolding idxSub
-sub-out x zero h = absurd (omega arith)
-sub-out x (suc y) h = rw (lt-ltb x (suc y) h)
-
--- the product's test by division
-pub mul-in : (x y : ℕ) → (y ≡ 0 → ⊥) → x ≤ (2 ^ 64 - 1) / y → x * y < 2 ^ 64
-mul-in x zero h k = absurd (h refl)
-mul-in x (suc y) h k = suc-le-suc (le-div-iff-mul-le (zero-lt-suc y) .0 k)
-
-pub mul-out : (x y : ℕ) → (y ≡ 0 → ⊥) → (2 ^ 64 - 1) / y < x → 2 ^ 64 ≤ x * y
-mul-out x zero h k = absurd (h refl)
-mul-out x (suc y) h k = div-lt-iff-lt-mul (zero-lt-suc y) .0 k
-
 -- ---- signs
 
 pub abs-neg : (z : ℤ) → natAbs (negℤ z) ≡ natAbs z
@@ -97,21 +69,6 @@ product (negsuc a) (negsuc b) = negℤ-negℤ (pos (suc a * suc b))
 
 abs-product : (a b : ℤ) → natAbs (a *ℤ b) ≡ natAbs a * natAbs b
 abs-product a b = ap natAbs (sym (product a b)) ∙ abs-sign a (signOf b (pos (natAbs a * natAbs b))) ∙ abs-sign b (pos (natAbs a * natAbs b))
-
--- what `inRange` answers tells of its number
-value-is : (n p : ℕ) → inRange (pos n) ≡ some (pos p) → p ≡ n
-value-is n p = go (ltb n (2 ^ 64))
-  where
-    go : (t : Bool) → cond t (some (pos n)) none ≡ some (pos p) → p ≡ n
-    go true e = cc
-    go false e = cc
-
-none-is : (n : ℕ) → inRange (pos n) ≡ none → 2 ^ 64 ≤ n
-none-is n = go (ltb n (2 ^ 64)) refl
-  where
-    go : (t : Bool) → ltb n (2 ^ 64) ≡ t → cond t (some (pos n)) none ≡ none → 2 ^ 64 ≤ n
-    go true h e = let z : _≡_ {A = ℕ} 0 1 = cc in omega arith
-    go false h e = ltb-false n (2 ^ 64) h
 
 mag-ge : (z : ℤ) → 2 ^ 64 ≤ natAbs z → 2 ^ 63 ≤ mag z
 mag-ge (pos n) h = omega arith

@@ -1,13 +1,11 @@
 // 64-bit arithmetic: each contract is an equation with a definition of specs/ over whole numbers.
+use index64::Step;
 ghost use mathlib.Core.Path.{_≡_};
-ghost use Prim.Native.Nat.{_+_, _*_, _<_, _≤_, _^_};
+ghost use Prim.Native.Nat.{_+_, _<_, _≤_, _^_};
 ghost use lib.IntN.{pos, negsuc, natAbs, negℤ, _+ℤ_};
 ghost use lib.Signed.{mag, shrZ};
 ghost use Rattle.num64.specs.Exact.{number, signOf, restOf};
 ghost use Rattle.num64.specs.Exact.{checkedAdd, checkedSub, checkedMul, checkedNeg, checkedDiv, checkedRem, fitted};
-ghost use Rattle.num64.specs.Steps.{idxAdd, idxSub, idxMul, idxDiv, stepped};
-
-const MAX: u64 = 0xffff_ffff_ffff_ffff;
 
 // 2^63: the bits from here on are those of negative numbers.
 const HALF: u64 = 0x8000_0000_0000_0000;
@@ -15,12 +13,6 @@ const HALF: u64 = 0x8000_0000_0000_0000;
 // A signed result, or Overflow where 64 bits hold none.
 pub enum Signed64 {
     Value(i64),
-    Overflow,
-}
-
-// An index, or Overflow where the step leaves 0 to 2^64 - 1 or divides by 0.
-pub enum Step {
-    Value(u64),
     Overflow,
 }
 
@@ -167,7 +159,7 @@ pub fn checked_sub(a: i64, b: i64) -> Signed64
 pub fn checked_mul(a: i64, b: i64) -> Signed64
     ensures { λ r. ⌜ r ≡ checkedMul a b ⌝ }
 {
-    match step_mul(absolute(a), absolute(b)) {
+    match index64::step_mul(absolute(a), absolute(b)) {
         Step::Value(p) => fit(signed_by(a, signed_by(b, Whole::Pos(p)))),
         Step::Overflow => Signed64::Overflow,
     }
@@ -189,50 +181,5 @@ pub fn checked_rem_euclid(a: i64, b: i64) -> Signed64
     match checked_div_euclid(a, b) {
         Signed64::Value(_) => fit(Whole::Pos(rest(split(a), absolute(b)))),
         Signed64::Overflow => Signed64::Overflow,
-    }
-}
-
-// ---- index steps
-
-pub fn step_add(x: u64, y: u64) -> Step
-    ensures { λ r. ⌜ stepped r ≡ idxAdd (pos x) (pos y) ⌝ }
-{
-    if x <= MAX - y {
-        Step::Value(x + y)
-    } else {
-        Step::Overflow
-    }
-}
-
-pub fn step_sub(x: u64, y: u64) -> Step
-    ensures { λ r. ⌜ stepped r ≡ idxSub (pos x) (pos y) ⌝ }
-{
-    if y <= x {
-        Step::Value(x - y)
-    } else {
-        Step::Overflow
-    }
-}
-
-pub fn step_mul(x: u64, y: u64) -> Step
-    ensures { λ r. ⌜ stepped r ≡ idxMul (pos x) (pos y) ⌝ }
-{
-    if y == 0 {
-        return Step::Value(0);
-    }
-    if x <= MAX / y {
-        Step::Value(x * y)
-    } else {
-        Step::Overflow
-    }
-}
-
-pub fn step_div(x: u64, y: u64) -> Step
-    ensures { λ r. ⌜ stepped r ≡ idxDiv (pos x) (pos y) ⌝ }
-{
-    if y == 0 {
-        Step::Overflow
-    } else {
-        Step::Value(x / y)
     }
 }

@@ -1,6 +1,6 @@
 // What the commands compute: operations on numbers and on indexes.
+use index64::Step;
 use num64::Signed64;
-use num64::Step;
 use semantics::BinOp;
 use semantics::CmpOp;
 use semantics::IdxOp;
@@ -9,7 +9,7 @@ use semantics::UnOp;
 use semantics::Value;
 ghost use mathlib.Core.Path.{_≡_};
 ghost use lib.IntN.{pos};
-ghost use Rattle.num64.specs.Steps.{stepped};
+ghost use Rattle.index64.specs.Steps.{stepped};
 ghost use Rattle.semantics.specs.Operations.{binRow, cmpRow, idxRow, orRefused, unRow};
 
 // A number that fits, or the refusal that an overflow is.
@@ -66,9 +66,9 @@ pub fn index(op: IdxOp, x: u64, y: u64) -> Step
     ensures { λ r. ⌜ stepped r ≡ idxRow op .result (pos x) (pos y) ⌝ }
 {
     match op {
-        IdxOp::Add => num64::step_add(x, y),
-        IdxOp::Sub => num64::step_sub(x, y),
-        IdxOp::Mul => num64::step_mul(x, y),
-        IdxOp::Div => num64::step_div(x, y),
+        IdxOp::Add => index64::step_add(x, y),
+        IdxOp::Sub => index64::step_sub(x, y),
+        IdxOp::Mul => index64::step_mul(x, y),
+        IdxOp::Div => index64::step_div(x, y),
     }
 }

@@ -8,7 +8,7 @@ use lib.ListN.{replicate}
 use lib.IntN.{ℤ, pos, negℤ}
 use Rattle.num64.specs.Exact.{checkedAdd, checkedNeg, checkedDiv, checkedRem}
 use Rattle.word64.specs.Bits.{signedOf, bitsOf}
-use Rattle.num64.specs.Steps.{idxSub}
+use Rattle.index64.specs.Steps.{idxSub}
 use Rattle.slices.specs.Bytes.{bytesValue, littleEndian}
 use Rattle.semantics.specs.Check.{Checked, checked, condition, judged}
 use Rattle.semantics.specs.Code.{code, commandOf, exprCode, idxCode}

@@ -8,7 +8,7 @@ use lib.ListN.{getD, replicate}
 use lib.IntN.{ℤ}
 use Rattle.num64.specs.Exact.{checkedAdd, checkedSub, checkedMul}
 use Rattle.word64.specs.Bits.{bitsOf}
-use Rattle.num64.specs.Steps.{idxAdd, idxSub, idxMul, idxDiv}
+use Rattle.index64.specs.Steps.{idxAdd, idxSub, idxMul, idxDiv}
 use Rattle.slices.specs.Bytes.{bytesValue, littleEndian}
 use Rattle.semantics.specs.Check.{Checked, checked, condition, judged}
 use Rattle.semantics.specs.Code.{code, commandOf, exprCode, idxCode}

@@ -7,7 +7,7 @@ use lib.ListN.{length, getD}
 use lib.Dec.{eqb, ltb}
 use lib.IntN.{ℤ, pos, negsuc}
 use Rattle.word64.specs.Bits.{signedOf}
-use Rattle.num64.specs.Steps.{inRange}
+use Rattle.index64.specs.Steps.{inRange}
 use Rattle.slices.specs.Bytes.{littleEndian, bytesValue}
 use Rattle.semantics.specs.Operations.{Value, idxRow, listRow, binRow, unRow, cmpRow}
 use Rattle.semantics.specs.Refusals.{Refusal}

@@ -10,7 +10,7 @@ use Rattle.num64.specs.declared.Signed64.{Signed64}
 use Rattle.num64.specs.declared.Signed64.the-variants as S
 use Rattle.num64.specs.Exact.{checkedAdd, checkedSub, checkedMul, checkedDiv, checkedRem, checkedNeg}
 use Rattle.word64.specs.Bits.{andOf, orOf, xorOf, invertOf, eqZ}
-use Rattle.num64.specs.Steps.{idxAdd, idxSub, idxMul, idxDiv}
+use Rattle.index64.specs.Steps.{idxAdd, idxSub, idxMul, idxDiv}
 use Rattle.semantics.specs.Trees.{IdxOp, AmountList, BinOp, UnOp, CmpOp}
 use Rattle.semantics.specs.Refusals.{Refusal}
 pub use Rattle.semantics.specs.declared.Value.{Value}

@@ -7,7 +7,7 @@ use mathlib.Core.List.{List, _∷_}
 use lib.ListN.{getD, take, drop}
 use lib.IntN.{ℤ, pos}
 use Rattle.word64.specs.Bits.{signedOf}
-use Rattle.num64.specs.Steps.{inRange}
+use Rattle.index64.specs.Steps.{inRange}
 use Rattle.slices.specs.Bytes.{bytesValue}
 use Rattle.semantics.specs.Operations.{binRow, cmpRow, idxRow, unRow}
 use Rattle.semantics.specs.Code.{Command}

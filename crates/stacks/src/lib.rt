@@ -1,5 +1,5 @@
 // The operands that wait, in two arrays: what the commands do with them.
-use num64::Step;
+use index64::Step;
 use semantics::AmountList;
 use semantics::BinOp;
 use semantics::CmpOp;
@@ -14,7 +14,7 @@ ghost use mathlib.Core.List.{List, _∷_};
 ghost use Prim.Native.Nat.{ℕ, _+_, _-_, _≤_, _<_};
 ghost use lib.IntN.{ℤ, pos};
 ghost use lib.ListN.{length, take, drop};
-ghost use Rattle.num64.specs.Steps.{stepped};
+ghost use Rattle.index64.specs.Steps.{stepped};
 ghost use Rattle.semantics.specs.Operations.{binRow, cmpRow, idxRow, unRow};
 ghost use Rattle.semantics.specs.Code.{commandRow};
 ghost use Rattle.semantics.specs.Evaluation.{Env, State, ok, outcome};

@@ -5,7 +5,7 @@ use native.Mathlib.Omega.{arith}
 use lib.IntN.{pos, natAbs}
 use mir.Facts.{toZ-ofZ}
 use Rattle.num64.specs.Exact.{checkedMul}
-use Rattle.num64.specs.Steps.{idxMul, stepped}
+use Rattle.index64.specs.Steps.{idxMul, stepped}
 use Rattle.num64.proofs.Laws.{abs-sign, mul-value, mul-overflow}
 use Rattle.num64.proofs.checked_mul.Statement.{statement}
 use Rattle.num64.proofs.checked_mul.Tie as tie

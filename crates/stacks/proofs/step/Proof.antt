@@ -4,7 +4,7 @@ use mathlib.Core.Logic.{inl, inr}
 use mathlib.Core.Path.{_≡_}
 use native.Mathlib.Omega.{arith}
 use mir.Facts.{toZ-ofZ}
-use Rattle.num64.proofs.Laws.{in-range}
+use Rattle.index64.proofs.Laws.{in-range}
 use Rattle.semantics.specs.declared.Command.{Command}
 use Rattle.stacks.specs.Stacks.{Ready}
 use Rattle.stacks.proofs.Ready.{ready-binary, ready-compare, ready-index, ready-lookup, ready-unary}

@@ -1,10 +1,10 @@
 -- The product lies below 2^64 where the test by division held (`mul-in`, `mul-out`).
 use borrow.Author.Needs.{needs}
 use native.Mathlib.Nat.{mul-zero}
-use Rattle.num64.specs.Steps.{idxMul}
-use Rattle.num64.proofs.Laws.{in-range, out-of-range, mul-in, mul-out}
-use Rattle.num64.proofs.step_mul.Statement.{statement}
-use Rattle.num64.proofs.step_mul.Tie as tie
+use Rattle.index64.specs.Steps.{idxMul}
+use Rattle.index64.proofs.Laws.{in-range, out-of-range, mul-in, mul-out}
+use Rattle.index64.proofs.step_mul.Statement.{statement}
+use Rattle.index64.proofs.step_mul.Tie as tie
 
 returns : tie.Need-returns
 unfolding idxMul

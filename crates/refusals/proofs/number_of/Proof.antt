@@ -7,9 +7,10 @@ use mir.Syntax.{w64}
 use mir.Val.{SFits, toZ, ofZ}
 use mir.Facts.{toZ-ofZ}
 use Rattle.word64.specs.Bits.{bitsOf}
-use Rattle.semantics.specs.Refusals.{Numbered, refusal}
-use Rattle.semantics.proofs.number_of.Statement.{statement}
-use Rattle.semantics.proofs.number_of.Tie as tie
+use Rattle.semantics.specs.declared.Numbered.{Numbered}
+use Rattle.semantics.specs.Refusals.{refusal}
+use Rattle.refusals.proofs.number_of.Statement.{statement}
+use Rattle.refusals.proofs.number_of.Tie as tie
 
 -- a callee is passed a signed number by its bits
 operands : {r : Numbered} {n : ℕ} (x y : ℤ) → SFits w64 x → SFits w64 y

@@ -4,9 +4,9 @@ use mathlib.Core.Option.{Option, none, some}
 use Prim.Native.Nat.{_^_}
 use lib.Dec.{ltb, eqb}
 use lib.IntN.{ℤ, pos, negsuc, natAbs, _+ℤ_, _-ℤ_, _*ℤ_}
-use Rattle.num64.specs.Exact.{quotient}
-use Rattle.num64.specs.declared.Step.{Step}
-use Rattle.num64.specs.declared.Step.the-variants.{Value, Overflow}
+use lib.Signed.{shrZ}
+use Rattle.index64.specs.declared.Step.{Step}
+use Rattle.index64.specs.declared.Step.the-variants.{Value, Overflow}
 
 -- "leaves 0 to 2^64 − 1": the one range test of index values
 abbrev pub inRange : ℤ → Option ℤ
@@ -22,9 +22,9 @@ idxSub x y = inRange (x -ℤ y)
 unfoldable pub idxMul : ℤ → ℤ → Option ℤ
 idxMul x y = inRange (x *ℤ y)
 
--- of numbers from 0 on, Euclid's quotient is rounded down
+-- "division rounds down": `shrZ a d` of lib.Signed is a by d, rounded down; an index is never negative
 unfoldable pub idxDiv : ℤ → ℤ → Option ℤ
-idxDiv x y = cond (eqb (natAbs y) 0) none (inRange (quotient x y))
+idxDiv x y = cond (eqb (natAbs y) 0) none (inRange (shrZ x (natAbs y)))
 
 -- what a step on 64-bit numbers gives
 abbrev pub stepped : Step → Option ℤ

@@ -2,10 +2,10 @@
 use borrow.Author.Needs.{needs}
 use native.Mathlib.Omega.{arith}
 use Prim.Native.Nat.{_+_}
-use Rattle.num64.specs.Steps.{idxAdd}
-use Rattle.num64.proofs.Laws.{in-range, out-of-range}
-use Rattle.num64.proofs.step_add.Statement.{statement}
-use Rattle.num64.proofs.step_add.Tie as tie
+use Rattle.index64.specs.Steps.{idxAdd}
+use Rattle.index64.proofs.Laws.{in-range, out-of-range}
+use Rattle.index64.proofs.step_add.Statement.{statement}
+use Rattle.index64.proofs.step_add.Tie as tie
 
 returns : tie.Need-returns
 unfolding idxAdd

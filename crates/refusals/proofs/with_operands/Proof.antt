@@ -1,8 +1,8 @@
 -- The callees' equations one after another; a callee is passed a signed number by its bits.
 use borrow.Author.Needs.{needs}
 use mir.Facts.{toZ-ofZ}
-use Rattle.semantics.proofs.with_operands.Statement.{statement}
-use Rattle.semantics.proofs.with_operands.Tie as tie
+use Rattle.refusals.proofs.with_operands.Statement.{statement}
+use Rattle.refusals.proofs.with_operands.Tie as tie
 
 pub with-operands-spec : {M : Type 1} → statement M
 with-operands-spec =

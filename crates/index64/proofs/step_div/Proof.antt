@@ -4,10 +4,10 @@ use native.Mathlib.Omega.{arith}
 use native.Mathlib.Nat.{div-le-self}
 use borrow.Author.Needs.{needs}
 use borrow.Author.Tests.{eq-eqb, ne-eqb}
-use Rattle.num64.specs.Steps.{idxDiv}
-use Rattle.num64.proofs.Laws.{in-range}
-use Rattle.num64.proofs.step_div.Statement.{statement}
-use Rattle.num64.proofs.step_div.Tie as tie
+use Rattle.index64.specs.Steps.{idxDiv}
+use Rattle.index64.proofs.Laws.{in-range}
+use Rattle.index64.proofs.step_div.Statement.{statement}
+use Rattle.index64.proofs.step_div.Tie as tie
 
 returns : tie.Need-returns
 unfolding idxDiv
