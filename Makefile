@@ -1,6 +1,6 @@
 # make run proves what the worked examples need and prints them; make test is the whole gate.
 # make compare and make bench ask the published Rust too; RUST_SOURCE names the folder of its source.
-.PHONY: run test compare bench vectors toolchain listed archive
+.PHONY: run test edits compare bench vectors toolchain listed archive
 
 run: toolchain
 	@log=$$(mktemp) && { rt check examples >"$$log" 2>&1 || { cat "$$log"; rm -f "$$log"; exit 1; }; rm -f "$$log"; }
@@ -8,6 +8,10 @@ run: toolchain
 
 test: toolchain listed
 	tests/run.sh
+
+# the edits that must fail and that the gate leaves out
+edits: toolchain
+	tests/edits.sh
 
 # target/staticlib/libcovenant.a, for the programs that link it
 archive: toolchain
