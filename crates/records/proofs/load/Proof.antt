@@ -50,6 +50,7 @@ use denote.Exit.{yes}
 use Rattle.records.specs.declared.TokenRecord.{TokenRecord}
 use Rattle.records.specs.Fields.{kindsOf, numbersOf, placesOf}
 use Rattle.records.proofs.Onto.{blank, field-length, field-step, onto}
+use Rattle.records.proofs.Walk.{Here, Known, val}
 use Rattle.records.proofs.TokenRecord as T
 use Rattle.records.proofs.TokenRecord.Laws as T′
 use Rattle.records.proofs.load.Key.{name as #records·load}
@@ -60,27 +61,6 @@ use Rattle.records.proofs.load.Code.Mir as mir
 
 abbrev stayed : Stays (f.ended .signature .params) (f.ended .kept)
 stayed = (stay-none-slice (0 ∷ []) tt (plain (λ _. T.the-row)) yes, (stay-none (λ _. usize) yes, (stay-slice (1 ∷ []) tt (plain (λ _. u8)), (stay-slice (2 ∷ []) tt (plain (λ _. u64)), (stay-slice (3 ∷ []) tt (plain (λ _. u32)), tt)))))
-
-abbrev val : TokenRecord → Val
-val = LL.val T.the-type T′.the-laws
-
--- a place in the loop: i records are copied, and left are left
-record Here (n : ℕ) : Type 0 where
-  at : ℕ
-  left : ℕ
-  all : at + left ≡ n
-
--- what is known of the arguments
-record Known (ts : List TokenRecord) (n : ℕ) (ks ns ps : List ℕ) : Type 0 where
-  n-fits : n < 2 ^ 64
-  room : Room T.the-row (length ts)
-  room₁ : Room u8 (length ks)
-  room₂ : Room u64 (length ns)
-  room₃ : Room u32 (length ps)
-  in₀ : n ≤ length ts
-  in₁ : n ≤ length ks
-  in₂ : n ≤ length ns
-  in₃ : n ≤ length ps
 
 -- κ, q, s: the borrow of the records. κ₁, q₁, x₁ and so on: those of the three slices
 module _ {M : Type 1} (𝓤 : URA M) (H : Heap 𝓤) (A : Atoms 𝓤) (W : Given 𝓤 H A) (mem : Memory → SProp 𝓤) (run : Routine → Fun 𝓤)
