@@ -1,5 +1,5 @@
 #!/bin/sh
-# edits.sh: tries the edits of crates/*/must-fail/more, which the gate leaves out to stay short, on a copy of the crates. Last line: 'N passed, M failed' of rt.
+# edits.sh: tries the edits of crates/*/must-fail/more, which the gate leaves out to stay short, on a copy of the crates. The last line of rt says how many were refused.
 set -eu
 cd "$(dirname "$0")/.."
 work=$(mktemp -d)
