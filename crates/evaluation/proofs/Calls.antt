@@ -12,13 +12,11 @@ use lib.Seq.{take-length}
 use Rattle.slices.specs.Bytes.{Bytes}
 use Rattle.semantics.specs.declared.Checked.{Checked}
 use Rattle.semantics.specs.declared.Refusal.{Refusal}
-use Rattle.semantics.specs.Check.{Condition, checked, condition, firstOf, unless}
+use Rattle.semantics.specs.Check.{checked, condition, firstOf, unless}
 use Rattle.semantics.specs.Evaluate.{Evaluation, Lent, ended, endsSound, envSound, evaluated, evaluatedTree, initial, refusedCall, unlessRefused}
 use Rattle.semantics.specs.Evaluation.{evalArith}
-use Rattle.semantics.specs.Oracle.{oracles}
 use Rattle.semantics.specs.Parse.{fold, instructions}
-use Rattle.semantics.specs.Trees.{Arith}
-use Rattle.semantics.proofs.Passing.{answered-passed, answered-refused, passing}
+use Rattle.semantics.proofs.Passing.{Passed, answered-refused, passed}
 use Rattle.semantics.proofs.Run.{run-code}
 use Rattle.condition.proofs.Onward.{accepted}
 use Rattle.witness.specs.Elements.{leftOf, stateOf}
@@ -37,14 +35,8 @@ refused-first b l r e = rw (answered-refused (condition b) r e)
 
 -- a condition that passes is a tree
 module _ (b : List ℕ) (bytes : Bytes b) (l : Lent) (n m : ℕ) (passes : checked b ≡ Checked.Passed n m) where
-  pub record Known : Type 0 where
-    pub tree : Arith
-    pub is : condition b ≡ Condition.passed tree
-    pub few : oracles tree ≡ m
-
-  known : Known
-  unfolding checked
-  known = let k = answered-passed (condition b) n m passes in record { tree = k .0; is = k .1; few = k .3 }
+  known : Passed b n m
+  known = passed b bytes n m passes
 
   abbrev sized : Bool
   sized = leb (112 * m) (length (l .buffer))
@@ -57,7 +49,7 @@ module _ (b : List ℕ) (bytes : Bytes b) (l : Lent) (n m : ℕ) (passes : check
 
   guards : evaluated b l ≡ guarded (envSound (l .env)) (endsSound 0 (length (l .witness)) (l .ends)) sized
   unfolding evaluated evaluatedTree
-  guards = rw (known .is, known .few)
+  guards = rw (known .is, known .terminals)
 
   pub refused-amounts : envSound (l .env) ≡ false → refusedCall Refusal.AmountsUnsound l ≡ evaluated b l
   refused-amounts p = rw (guards, p)
@@ -73,7 +65,7 @@ module _ (b : List ℕ) (bytes : Bytes b) (l : Lent) (n m : ℕ) (passes : check
         → Answers (l .buffer) (fold (runStep (l .env)) (Run.going [] [] (stateOf (l .witness) (l .ends) (l .buffer) (length (l .ends)) 0)) (instructions b)) e
         → e ≡ evaluated b l
     answers h e r =
-        let k = passing b bytes (known .tree) (known .is) in
+        let k = known .told in
         let s = rw (initial-state l, ← k .coded, run-code (l .env) (known .tree) (k .encodable) (initial l)) at r in
         rw (guards, p, q, le-leb (112 * m) (length (l .buffer)) h) s
 

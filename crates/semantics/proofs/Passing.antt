@@ -9,7 +9,7 @@ use borrow.Author.Tests.{leb-true, lt-leb}
 use lib.ListN.{length}
 use lib.Dec.{leb}
 use Rattle.slices.specs.Bytes.{Bytes}
-use Rattle.semantics.specs.Check.{Checked, Condition, answered, condition, firstOf, judged, judgedParsed, passedUnless, unless}
+use Rattle.semantics.specs.Check.{Checked, Condition, answered, checked, condition, firstOf, judged, judgedParsed, passedUnless, unless}
 use Rattle.semantics.specs.Code.{code, maxCode, maxTokens}
 use Rattle.semantics.specs.Oracle.{oracleRule, oracles}
 use Rattle.semantics.specs.Parse.{Parsed, parse}
@@ -62,6 +62,20 @@ passing b h a e =
       few = leb-true (length (form (q .0))) maxTokens (j .1);
       rule = j .2;
     })
+
+-- what Check's answer tells of code that it lets pass: t tokens, m oracle terminals
+pub record Passed (b : List ℕ) (t m : ℕ) : Type 0 where
+  pub tree : Arith
+  pub is : condition b ≡ Condition.passed tree
+  pub tokens : length (form tree) ≡ t
+  pub terminals : oracles tree ≡ m
+  pub told : Passing b tree
+
+pub passed : (b : List ℕ) → Bytes b → (t m : ℕ) → checked b ≡ Checked.Passed t m → Passed b t m
+unfolding checked
+passed b h t m e =
+    let k = answered-passed (condition b) t m e in
+    record { tree = k .0; is = k .1; tokens = k .2; terminals = k .3; told = passing b h (k .0) (k .1) }
 
 -- The order of refusals where an input shows it that is too long to compute: 1 before 2 to 5, and 3 before 4 and 5.
 pub too-long : (b : List ℕ) → maxCode < length b → condition b ≡ Condition.refused Refusal.CodeTooLong

@@ -4,13 +4,13 @@ use mathlib.Core.Path.{_≡_, refl, ap, _∙_}
 use mathlib.Core.List.{List}
 use native.Mathlib.Omega.{arith}
 use lib.ListN.{length, take, drop, length-drop}
-use lib.Seq.{drop-drop, length-take-le, paste, take-take}
+use lib.Seq.{length-take-le, paste, take-take}
 use Rattle.slices.specs.Bytes.{bytesValue}
-use Rattle.slices.proofs.Bytes.{drop-take}
 use Rattle.semantics.specs.Evaluate.{over}
+use Rattle.semantics.proofs.Machine.{time-at}
 
 pub time-bytes : (code : List ℕ) (at : ℕ) → bytesValue (drop 32 (take 40 (drop at code))) ≡ bytesValue (take 8 (drop (at + 32) code))
-time-bytes code at = ap bytesValue (drop-take 32 8 (drop at code) ∙ ap (take 8) (drop-drop 32 at code))
+time-bytes code at = ap bytesValue (time-at code at)
 
 pub key-bytes : (code : List ℕ) (at : ℕ) → take 32 (take 40 (drop at code)) ≡ take 32 (drop at code)
 key-bytes code at = take-take 32 40 (drop at code) (omega arith)

@@ -10,7 +10,7 @@ use lib.IntN.{ℤ, pos}
 use lib.ListN.{length, take, drop, length-append, length-take, length-drop, take-append-drop}
 use lib.Seq.{drop-at, drop-drop, length-paste-head, length-take-le, paste, take-at}
 use Rattle.slices.specs.Bytes.{Read64, bytesValue}
-use Rattle.slices.proofs.Bytes.{drop-take}
+use Rattle.semantics.proofs.Machine.{time-at}
 use Rattle.semantics.specs.declared.Refusal.{Refusal}
 use Rattle.semantics.specs.declared.Value.{Value}
 use Rattle.semantics.specs.Evaluation.{Outcome, State, checkBytes, err, ok, onward, outcome, pop}
@@ -54,9 +54,6 @@ module _ {code : List ℕ} {at : ℕ} {w ends old : List ℕ} {left checks width
     pops-refused x e = record { gives = rw (pop-is, e); fewer = fewer; more = omega arith; one = omega arith; kept = refl }
 
 -- the terminal's time
-time-at : (code : List ℕ) (at : ℕ) → drop 32 (take 40 (drop at code)) ≡ take 8 (drop (at + 32) code)
-time-at code at = drop-take 32 8 (drop at code) ∙ ap (take 8) (drop-drop 32 at code)
-
 pub time-is : (code : List ℕ) (at t : ℕ) → Read64 code (at + 32) t → timeAt code at ≡ t
 time-is code at t r = ap bytesValue (time-at code at) ∙ sym (r .value)
 

@@ -11,15 +11,14 @@ use Rattle.slices.specs.Bytes.{Bytes}
 use Rattle.semantics.specs.declared.Checked.{Checked}
 use Rattle.semantics.specs.declared.Refusal.{Refusal}
 use Rattle.semantics.specs.declared.Written.{Written}
-use Rattle.semantics.specs.Check.{Condition, checked, condition, firstOf, unless}
-use Rattle.semantics.specs.Code.{maxTokens}
+use Rattle.semantics.specs.Check.{checked, condition, firstOf, unless}
 use Rattle.semantics.specs.Oracle.{oracles}
 use Rattle.semantics.specs.Records.{Records}
 use Rattle.semantics.specs.Token.{form, narrow}
 use Rattle.semantics.specs.Trees.{Arith}
 use Rattle.semantics.specs.Write.{roomFor, writesUnless, writing}
 use Rattle.semantics.proofs.Forms.{form-keys, form-sound}
-use Rattle.semantics.proofs.Passing.{Passing, answered-passed, answered-refused, passing}
+use Rattle.semantics.proofs.Passing.{Passed, answered-refused, passed}
 use Rattle.semantics.proofs.Placing.{in-order, length-places}
 use Rattle.semantics.proofs.Tests.{and-true}
 use Rattle.condition.proofs.Onward.{accepted, few-oracles}
@@ -51,18 +50,8 @@ coded b t m marks e h = let a = accepted b t m e in record { last = a .last; wal
 
 -- a condition that passes is a tree
 module _ (b : List ℕ) (bytes : Bytes b) (old : Records) (t m : ℕ) (passes : checked b ≡ Checked.Passed t m) where
-  record Known : Type 0 where
-    tree : Arith
-    is : condition b ≡ Condition.passed tree
-    tokens : length (form tree) ≡ t
-    terminals : oracles tree ≡ m
-    told : Passing b tree
-
-  known : Known
-  unfolding checked
-  known =
-      let k = answered-passed (condition b) t m passes in
-      record { tree = k .0; is = k .1; tokens = k .2; terminals = k .3; told = passing b bytes (k .0) (k .1) }
+  known : Passed b t m
+  known = passed b bytes t m passes
 
   abbrev tree : Arith
   tree = known .tree
