@@ -2,3 +2,6 @@
 pub mod Moves
 pub mod Loop
 pub mod Calls
+pub mod Turns
+pub mod Again
+pub mod Lent

@@ -29,7 +29,8 @@ use Rattle.condition.proofs.Onward.{Onward, SoFar, height, inside, next-oracles
 use Rattle.condition.proofs.Steps.{walkFrom}
 use Rattle.stacks.specs.declared.Turn.{Turn}
 use Rattle.witness.specs.Elements.{stateOf}
-use Rattle.evaluation.specs.Run.{Answers, Fits, Moves, Supplied}
+use Rattle.evaluation.specs.Run.{Answers, Fits}
+use Rattle.evaluation.proofs.Moves.{Moves, Supplied}
 use Rattle.slices.specs.Stack.{stackOf}
 use Rattle.stacks.specs.Stacks.{Ready, concluded, indexesIn, runOf, valuesIn}
 use Rattle.witness.proofs.Elements.{left-count}

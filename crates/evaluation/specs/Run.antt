@@ -1,31 +1,65 @@
--- What a command goes by and keeps, what the loop over them goes by, and what it answers.
-use Prim.Native.Nat.{ℕ, _+_, _*_, _≤_}
-use mathlib.Core.Bool.{true}
+-- What a command goes by and does, what the loop over them goes by, and what it answers.
+use Prim.Native.Nat.{ℕ, _+_, _*_, _≤_, _<_}
+use mathlib.Core.Logic.{_⊎_}
 use mathlib.Core.Path.{_≡_}
 use mathlib.Core.List.{List}
 use lib.IntN.{ℤ}
-use lib.ListN.{length, drop}
+use lib.ListN.{length}
 use Rattle.semantics.specs.declared.Command.{Command}
 use Rattle.semantics.specs.Code.{commandRow, maxTokens}
-use Rattle.semantics.specs.Evaluate.{Evaluation, ended, endsSound}
+use Rattle.semantics.specs.Evaluate.{Evaluation, ended}
 use Rattle.summary.specs.declared.Summary.{Summary}
 use Rattle.condition.specs.declared.Walked.{Walked}
-use Rattle.condition.specs.Walk.{counted, foldTerminals, terminalsOf, walked}
-use Rattle.semantics.specs.Run.{Run}
+use Rattle.condition.specs.Walk.{walked}
+use Rattle.semantics.specs.declared.Value.{Value}
+use Rattle.semantics.specs.Evaluation.{Env, State, oracle, outcome}
+use Rattle.semantics.specs.Parse.{after, commandAt, operandsAt}
+use Rattle.semantics.specs.Run.{Run, act, pushValue}
+use Rattle.stacks.specs.declared.Turn.{Turn}
+use Rattle.stacks.specs.Stacks.{Ready, indexesIn, runOf, valuesIn}
+use Rattle.witness.specs.Oracle.{keyAt, timeAt}
+use Rattle.evaluation.specs.declared.run.Next.{Next}
+use Rattle.evaluation.specs.declared.run.Spot.{Spot}
+use Rattle.evaluation.specs.declared.run.Step.{Step}
 
--- a command's operand bytes are there, the witness is sound, and there is room for the check of an oracle terminal
-pub record Supplied (c : Command) (code : List ℕ) (at : ℕ) (witness ends out : List ℕ) (left checks : ℕ) : Type 0 where
-  pub operands : at + commandRow c .width ≤ length code
-  pub room : 112 * foldTerminals counted checks (terminalsOf c) ≤ length out
-  pub few : left ≤ length ends
-  pub sound : endsSound 0 (length witness) ends ≡ true
+-- what follows a turn, if the next command stands at `at`
+abbrev pub nextOf : ℕ → Turn → Next
+nextOf at (Turn.On v i) = Next.Command (record { at = at; values = v; indexes = i })
+nextOf at (Turn.Ended r) = Next.Ended r
 
--- no witness element comes back, a check is new only with an oracle terminal, and the bytes after the checks are as they were
-pub record Moves (c : Command) (left checks left′ checks′ : ℕ) (old new : List ℕ) : Type 0 where
-  pub fewer : left′ ≤ left
-  pub more : checks ≤ checks′
-  pub counted-in : checks′ ≤ foldTerminals counted checks (terminalsOf c)
-  pub kept : drop (112 * checks′) new ≡ drop (112 * checks′) old
+abbrev pub nextAfter : Step → Next
+nextAfter (Step.On s) = Next.Command s
+nextAfter (Step.Ended r) = Next.Ended r
+
+-- an oracle terminal of either kind
+abbrev pub Oracular : Command → Type 0
+Oracular c = (c ≡ Command.PriceOracle1) ⊎ (c ≡ Command.PriceOracle1W)
+
+-- what the command at a spot goes by
+pub record Fetches (code : List ℕ) (values : List ℤ) (indexes : List ℕ) (s : Spot) : Type 0 where
+  pub inside : s .at < length code
+  pub operands : s .at + 1 + commandRow (commandAt code (s .at)) .width ≤ length code
+  pub ready : Ready (commandAt code (s .at)) (s .values) (s .indexes) values indexes
+
+-- what it does, but for an oracle terminal, whose price is still to be pushed
+abbrev pub Fetched : Env → List ℕ → List ℤ → List ℕ → Spot → List ℤ → List ℕ → Next → Type 0
+Fetched env code values indexes s values′ indexes′ (Next.Command t) =
+    (t .at ≡ after code (s .at))
+    × ((st : State) → runOf values′ indexes′ st (Turn.On (t .values) (t .indexes)) ≡ act env (commandAt code (s .at)) (operandsAt code (s .at)) (valuesIn values (s .values)) (indexesIn indexes (s .indexes)) st)
+Fetched env code values indexes s values′ indexes′ (Next.Oracle t) =
+    (t .at ≡ s .at + 1) × (t .values ≡ s .values) × (t .indexes ≡ s .indexes) × Oracular (commandAt code (s .at))
+    × ((st : State) → pushValue (valuesIn values′ (t .values)) (indexesIn indexes′ (t .indexes)) (oracle (keyAt code (t .at)) (timeAt code (t .at)) st) ≡ act env (commandAt code (s .at)) (operandsAt code (s .at)) (valuesIn values (s .values)) (indexesIn indexes (s .indexes)) st)
+Fetched env code values indexes s values′ indexes′ (Next.Ended r) =
+    (st : State) → runOf values′ indexes′ st (Turn.Ended r) ≡ act env (commandAt code (s .at)) (operandsAt code (s .at)) (valuesIn values (s .values)) (indexesIn indexes (s .indexes)) st
+
+-- a price is pushed, and the next command stands after key and time
+abbrev pub Pushed : Spot → List ℤ → List ℤ → Value → Next → Type 0
+Pushed s values values′ price (Next.Command t) =
+    (t .at ≡ s .at + 40)
+    × ((indexes : List ℕ) (st : State) → runOf values′ indexes st (Turn.On (t .values) (t .indexes)) ≡ pushValue (valuesIn values (s .values)) (indexesIn indexes (s .indexes)) (outcome price st))
+Pushed s values values′ price (Next.Oracle t) = ⊥
+Pushed s values values′ price (Next.Ended r) =
+    (indexes : List ℕ) (st : State) → runOf values′ indexes st (Turn.Ended r) ≡ pushValue (valuesIn values (s .values)) (indexesIn indexes (s .indexes)) (outcome price st)
 
 -- code that Check let pass, with room for what waits and for its checks
 pub record Fits (code : List ℕ) (values : List ℤ) (indexes out : List ℕ) : Type 0 where

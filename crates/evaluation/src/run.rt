@@ -2,14 +2,17 @@
 use semantics::AmountList;
 use semantics::Command;
 use semantics::Evaluated;
+use semantics::Value;
+use semantics::Verdict;
 use stacks::Effect;
 use stacks::Turn;
 use stacks::push_value;
+use witness::Witness;
 ghost use mathlib.Core.Bool.{true};
 ghost use mathlib.Core.Path.{_≡_};
 ghost use mathlib.Core.List.{List, []};
 ghost use mathlib.Core.Option.{some};
-ghost use Prim.Native.Nat.{ℕ, _<_};
+ghost use Prim.Native.Nat.{ℕ, _+_, _<_, _^_};
 ghost use lib.IntN.{pos};
 ghost use lib.ListN.{length, take, drop};
 ghost use Rattle.semantics.specs.declared.Command.{Command};
@@ -20,32 +23,25 @@ ghost use Rattle.semantics.specs.Parse.{fold, instructions};
 ghost use Rattle.amounts.specs.Lists.{envOf};
 ghost use Rattle.witness.specs.Elements.{stateOf};
 ghost use Rattle.witness.specs.Oracle.{Asks, keyAt, timeAt};
-ghost use Rattle.evaluation.specs.Run.{Answers, Fits, Moves, Supplied};
+ghost use Rattle.evaluation.specs.Run.{Answers, Fetched, Fetches, Fits, Pushed, nextAfter, nextOf};
 ghost use Rattle.stacks.specs.Stacks.{Ready, indexesIn, runOf, valuesIn};
 ghost use Rattle.semantics.specs.Run.{Run, act, pushValue, runStep};
 
-// An oracle terminal, whose key and time stand at `at`: its price is pushed.
-fn step_oracle(
-    code: &[u8],
-    at: usize,
-    witness: &[u8],
-    ends: &[u32],
-    out: &mut [u8],
-    vals: &mut [i64],
-    values: usize,
-    indexes: usize,
-    left: &mut usize,
-    checks: &mut usize,
-) -> Turn
-    requires { ⌜ Asks (now code) at (now witness) (now ends) (now out) (now left) (now checks) × (values < length (now vals)) ⌝ }
-    ensures { λ r. ⌜ Moves Command.PriceOracle1 (now (left .entry)) (now (checks .entry)) (now (left .exit)) (now (checks .exit)) (now (out .entry)) (now (out .exit)) ⌝ }
-    ensures { λ r. ⌜ ((idxs : List ℕ) → runOf (now (vals .exit)) idxs (stateOf (now (witness .entry)) (now (ends .entry)) (now (out .exit)) (now (left .exit)) (now (checks .exit))) r ≡ pushValue (valuesIn (now (vals .entry)) values) (indexesIn idxs indexes) (oracle (keyAt (now (code .entry)) at) (timeAt (now (code .entry)) at) (stateOf (now (witness .entry)) (now (ends .entry)) (now (out .entry)) (now (left .entry)) (now (checks .entry))))) ⌝ }
-{
-    let a = witness::ask(code, at, witness, ends, out, *left, *checks);
-    *left = a.left;
-    *checks = a.checks;
-    let value = a.value;
-    push_value(vals, value, values, indexes)
+// Key and time of an oracle terminal.
+const ORACLE_BYTES: usize = 40;
+
+// Where the evaluation goes on: a place in the code, and how many values and indexes wait.
+struct Spot {
+    pub at: usize,
+    pub values: usize,
+    pub indexes: usize,
+}
+
+// What is next: a command; an oracle terminal, whose key and time stand at the place; or nothing.
+enum Next {
+    Command(Spot),
+    Oracle(Spot),
+    Ended(Verdict),
 }
 
 // The amount of a list at an index: it is pushed.
@@ -82,11 +78,45 @@ fn step_lookup(
     push_value(vals, v, values, indexes)
 }
 
-// One command, whose operand bytes stand at `at`.
-fn step(
-    command: Command,
+// After an oracle terminal: a command, or nothing.
+enum Step {
+    On(Spot),
+    Ended(Verdict),
+}
+
+// What follows a turn, if the next command stands at `at`.
+fn onward(turn: Turn, at: usize) -> Next
+    ensures { λ r. ⌜ r ≡ nextOf at turn ⌝ }
+{
+    match turn {
+        Turn::On(values, indexes) => Next::Command(Spot {
+            at,
+            values,
+            indexes,
+        }),
+        Turn::Ended(verdict) => Next::Ended(verdict),
+    }
+}
+
+// The price of an oracle terminal, whose key and time stand at the spot: it is pushed.
+fn pushed(vals: &mut [i64], price: Value, spot: Spot) -> Step
+    requires { ⌜ (spot .values < length (now vals)) × (spot .at + 40 < 2 ^ 64) ⌝ }
+    ensures { λ r. ⌜ Pushed spot (now (vals .entry)) (now (vals .exit)) price (nextAfter r) ⌝ }
+{
+    let at = spot.at + ORACLE_BYTES;
+    match push_value(vals, price, spot.values, spot.indexes) {
+        Turn::On(values, indexes) => Step::On(Spot {
+            at,
+            values,
+            indexes,
+        }),
+        Turn::Ended(verdict) => Step::Ended(verdict),
+    }
+}
+
+// One command: what it does with the operands that wait, and what is next.
+fn fetch(
     code: &[u8],
-    at: usize,
     spent: &[u64],
     spent_marks: &[u8],
     outputs: &[u64],
@@ -96,50 +126,43 @@ fn step(
     reissued: &[u64],
     reissued_marks: &[u8],
     current: u64,
-    witness: &[u8],
-    ends: &[u32],
-    out: &mut [u8],
     vals: &mut [i64],
     idxs: &mut [u64],
-    values: usize,
-    indexes: usize,
-    left: &mut usize,
-    checks: &mut usize,
-) -> Turn
-    requires { ⌜ Ready command values indexes (now vals) (now idxs) ⌝ }
-    requires { ⌜ Supplied command (now code) at (now witness) (now ends) (now out) (now left) (now checks) ⌝ }
-    ensures { λ r. ⌜ Moves command (now (left .entry)) (now (checks .entry)) (now (left .exit)) (now (checks .exit)) (now (out .entry)) (now (out .exit)) ⌝ }
-    ensures { λ r. ⌜ runOf (now (vals .exit)) (now (idxs .exit)) (stateOf (now (witness .entry)) (now (ends .entry)) (now (out .exit)) (now (left .exit)) (now (checks .exit))) r ≡ act (envOf (now (spent .entry)) (now («spent_marks» .entry)) (now (outputs .entry)) (now («output_marks» .entry)) (now (issued .entry)) (now («issued_marks» .entry)) (now (reissued .entry)) (now («reissued_marks» .entry)) current) command (take (commandRow command .width) (drop at (now (code .entry)))) (valuesIn (now (vals .entry)) values) (indexesIn (now (idxs .entry)) indexes) (stateOf (now (witness .entry)) (now (ends .entry)) (now (out .entry)) (now (left .entry)) (now (checks .entry))) ⌝ }
+    spot: Spot,
+) -> Next
+    requires { ⌜ Fetches (now code) (now vals) (now idxs) spot ⌝ }
+    ensures { λ r. ⌜ Fetched (envOf (now (spent .entry)) (now («spent_marks» .entry)) (now (outputs .entry)) (now («output_marks» .entry)) (now (issued .entry)) (now («issued_marks» .entry)) (now (reissued .entry)) (now («reissued_marks» .entry)) current) (now (code .entry)) (now (vals .entry)) (now (idxs .entry)) spot (now (vals .exit)) (now (idxs .exit)) r ⌝ }
 {
-    match stacks::step(command, code, at, current, vals, idxs, values, indexes) {
-        Effect::Turned(turn) => turn,
-        Effect::Amount(list, i, rest) => step_lookup(
-            list,
-            i,
-            spent,
-            spent_marks,
-            outputs,
-            output_marks,
-            issued,
-            issued_marks,
-            reissued,
-            reissued_marks,
-            vals,
-            values,
-            rest,
-        ),
-        Effect::Oracle => step_oracle(
-            code,
-            at,
-            witness,
-            ends,
-            out,
-            vals,
+    let at = spot.at;
+    let values = spot.values;
+    let indexes = spot.indexes;
+    let command = commands::command_of(code[at]);
+    let after = at + 1 + commands::width_of(command);
+    match stacks::step(command, code, at + 1, current, vals, idxs, values, indexes) {
+        Effect::Turned(turn) => onward(turn, after),
+        Effect::Amount(list, i, rest) => {
+            let turn = step_lookup(
+                list,
+                i,
+                spent,
+                spent_marks,
+                outputs,
+                output_marks,
+                issued,
+                issued_marks,
+                reissued,
+                reissued_marks,
+                vals,
+                values,
+                rest,
+            );
+            onward(turn, after)
+        }
+        Effect::Oracle => Next::Oracle(Spot {
+            at: at + 1,
             values,
             indexes,
-            left,
-            checks,
-        ),
+        }),
     }
 }
 
@@ -161,21 +184,21 @@ pub fn run(
     vals: &mut [i64],
     idxs: &mut [u64],
 ) -> Evaluated
-    requires { ⌜ endsSound 0 (length (now witness)) (now ends) ≡ true ⌝ }
-    requires { ⌜ Fits (now code) (now vals) (now idxs) (now out) ⌝ }
+    requires { ⌜ (endsSound 0 (length (now witness)) (now ends) ≡ true) × Fits (now code) (now vals) (now idxs) (now out) ⌝ }
     ensures { λ r. ⌜ Answers (now (out .entry)) (fold (runStep (envOf (now (spent .entry)) (now («spent_marks» .entry)) (now (outputs .entry)) (now («output_marks» .entry)) (now (issued .entry)) (now («issued_marks» .entry)) (now (reissued .entry)) (now («reissued_marks» .entry)) current)) (Run.going [] [] (stateOf (now (witness .entry)) (now (ends .entry)) (now (out .entry)) (length (now (ends .entry))) 0)) (instructions (now (code .entry)))) (record { answer = r; buffer = now (out .exit) }) ⌝ }
 {
-    let mut values = 0;
-    let mut indexes = 0;
-    let mut left = ends.len();
-    let mut checks = 0;
-    let mut at = 0;
+    let mut w = Witness {
+        left: ends.len(),
+        checks: 0,
+    };
+    let mut spot = Spot {
+        at: 0,
+        values: 0,
+        indexes: 0,
+    };
     loop {
-        let command = commands::command_of(code[at]);
-        let turn = step(
-            command,
+        match fetch(
             code,
-            at + 1,
             spent,
             spent_marks,
             outputs,
@@ -185,27 +208,33 @@ pub fn run(
             reissued,
             reissued_marks,
             current,
-            witness,
-            ends,
-            out,
             vals,
             idxs,
-            values,
-            indexes,
-            &mut left,
-            &mut checks,
-        );
-        match turn {
-            Turn::On(v, i) => {
-                values = v;
-                indexes = i;
-                at = at + 1 + commands::width_of(command);
+            spot,
+        ) {
+            Next::Command(s) => {
+                spot = s;
             }
-            Turn::Ended(verdict) => {
+            Next::Oracle(s) => {
+                let price = witness::ask(code, s.at, witness, ends, out, &mut w);
+                match pushed(vals, price, s) {
+                    Step::On(t) => {
+                        spot = t;
+                    }
+                    Step::Ended(verdict) => {
+                        return Evaluated {
+                            verdict,
+                            checks: w.checks,
+                            left: w.left,
+                        };
+                    }
+                }
+            }
+            Next::Ended(verdict) => {
                 return Evaluated {
                     verdict,
-                    checks,
-                    left,
+                    checks: w.checks,
+                    left: w.left,
                 };
             }
         }

@@ -15,7 +15,7 @@ use Rattle.semantics.specs.Evaluation.{Outcome, err, ok, pop}
 use Rattle.semantics.proofs.Tests.{and-true}
 use Rattle.witness.specs.declared.Element.{Element}
 use Rattle.witness.specs.declared.Place.{Place}
-use Rattle.witness.specs.Elements.{leftOf, popped, startOf, stateOf, taken}
+use Rattle.witness.specs.Elements.{leftOf, placed, popped, startOf, stateOf}
 
 -- the top one, by cases on how many are left
 pub start-at : (ends : List ℕ) (k : ℕ) → 1 ≤ k → startOf ends k ≡ getD ends (k - 1) 0
@@ -23,13 +23,9 @@ start-at ends zero h = absurd (omega arith)
 start-at ends (suc k) h = let e : suc k - 1 ≡ k = omega arith in rw e
 
 pub popped-some : (ends : List ℕ) (n : ℕ) → 1 ≤ n
-    → popped ends n ≡ record { element = Element.Span (startOf ends (n - 1)) (getD ends (n - 1) 0); left = n - 1 }
+    → popped ends n ≡ Element.Span (startOf ends (n - 1)) (getD ends (n - 1) 0)
 popped-some ends zero h = absurd (omega arith)
 popped-some ends (suc k) h = let e : suc k - 1 ≡ k = omega arith in rw e
-
-pub popped-parts : (ends : List ℕ) (n : ℕ) → record { element = popped ends n .element; left = n - 1 } ≡ popped ends n
-popped-parts ends zero = refl
-popped-parts ends (suc k) = let e : suc k - 1 ≡ k = omega arith in rw e
 
 -- where element k starts, if the first starts at s
 abbrev startFrom : ℕ → List ℕ → ℕ → ℕ
@@ -90,13 +86,13 @@ module _ (w ends out : List ℕ) (sound : endsSound 0 (length w) ends ≡ true) 
   rises k h = rw (start-is ends k) at (rise 0 (length w) ends sound k h)
 
   pub pop-taken : (n width checks : ℕ) (absent wrong : Refusal) → n ≤ length ends
-      → let t = taken width absent wrong (popped ends n) in
-      pop width absent wrong (stateOf w ends out n checks) ≡ placeOutcome width checks (t .left) (t .place)
+      → pop width absent wrong (stateOf w ends out n checks) ≡ placeOutcome width checks (n - 1) (placed width absent wrong (popped ends n))
   pop-taken zero width checks absent wrong h = rw left-none
   pop-taken (suc k) width checks absent wrong h =
       let r = rises k (omega arith) in
+      let less : suc k - 1 ≡ k = omega arith in
       let size = length-slice (startOf ends k) (getD ends k 0) w (r .1) in
-      rw (left-next k (omega arith), size, le-leb (startOf ends k) (getD ends k 0) (r .0)) (go (eqb (getD ends k 0 - startOf ends k) width) refl)
+      rw (less, left-next k (omega arith), size, le-leb (startOf ends k) (getD ends k 0) (r .0)) (go (eqb (getD ends k 0 - startOf ends k) width) refl)
     where
       go : (b : Bool) → eqb (getD ends k 0 - startOf ends k) width ≡ b
           → cond b (ok (slice (startOf ends k) (getD ends k 0) w) (stateOf w ends out k checks)) (err wrong (stateOf w ends out k checks))
@@ -108,7 +104,7 @@ module _ (w ends out : List ℕ) (sound : endsSound 0 (length w) ends ≡ true) 
       go false e = refl
 
   -- an element that is there lies within the bytes, and no more are left than there were
-  pub taken-within : (n width p : ℕ) (absent wrong : Refusal) → n ≤ length ends → taken width absent wrong (popped ends n) .place ≡ Place.At p
+  pub taken-within : (n width p : ℕ) (absent wrong : Refusal) → n ≤ length ends → placed width absent wrong (popped ends n) ≡ Place.At p
       → p + width ≤ length w
   taken-within zero width p absent wrong h e = let z : _≡_ {A = ℕ} 0 1 = cc in absurd (omega arith)
   taken-within (suc k) width p absent wrong h e =
@@ -122,7 +118,3 @@ module _ (w ends out : List ℕ) (sound : endsSound 0 (length w) ends ≡ true) 
           omega (arith, r′ .0, r′ .1, s, eqb-true (getD ends k 0 - startOf ends k) width r)
       go true false q r e = let z : _≡_ {A = ℕ} 0 1 = cc in absurd (omega arith)
       go false b q r e = let z : _≡_ {A = ℕ} 0 1 = cc in absurd (omega arith)
-
-pub taken-fewer : (ends : List ℕ) (n width : ℕ) (absent wrong : Refusal) → taken width absent wrong (popped ends n) .left ≤ n
-taken-fewer ends zero width absent wrong = omega arith
-taken-fewer ends (suc k) width absent wrong = omega arith

@@ -1,5 +1,5 @@
 -- What an oracle terminal makes of the witness and of the buffer for the checks.
-use Prim.Native.Nat.{ℕ, _+_, _*_, _^_, _≤_, _<_}
+use Prim.Native.Nat.{ℕ, _+_, _-_, _*_, _^_, _≤_, _<_}
 use mathlib.Core.Path.{_≡_, refl, sym, ap, _∙_}
 use mathlib.Core.Bool.{Bool, true, false, cond}
 use mathlib.Core.List.{List, _++_, append-assoc}
@@ -13,45 +13,108 @@ use Rattle.slices.specs.Bytes.{Read64, bytesValue}
 use Rattle.semantics.proofs.Machine.{time-at}
 use Rattle.semantics.specs.declared.Refusal.{Refusal}
 use Rattle.semantics.specs.declared.Value.{Value}
-use Rattle.semantics.specs.Evaluation.{Outcome, State, checkBytes, err, ok, onward, outcome, pop}
-use Rattle.witness.specs.declared.Answered.{Answered}
+use Rattle.semantics.specs.Evaluate.{endsSound}
+use Rattle.semantics.specs.Evaluation.{Outcome, State, checkBytes, err, ok, onward, oracle, outcome, pop}
+use Rattle.witness.specs.declared.Judged.{Judged}
 use Rattle.witness.specs.declared.Place.{Place}
-use Rattle.witness.specs.declared.Taken.{Taken}
-use Rattle.witness.specs.Elements.{popped, stateOf, taken}
-use Rattle.witness.specs.Oracle.{Asks, Gives, afterSignature, checkOf, keyAt, priced, timeAt}
-use Rattle.witness.proofs.Elements.{placeOutcome, pop-taken, taken-fewer, taken-within}
+use Rattle.witness.specs.declared.Witness.{Witness}
+use Rattle.witness.specs.Elements.{fewer, placed, popped, stateOf, takenPlace, takenWitness}
+use Rattle.witness.specs.Oracle.{Gives, Judges, Lies, Settles, afterPrice, afterSignature, afterTime, checkOf, keyAt, priced, timeAt}
+use Rattle.witness.proofs.Elements.{placeOutcome, pop-taken, taken-within}
 
--- an element is popped on the way to an oracle terminal's value, and must have a width
-pub record Pops (code : List ℕ) (at : ℕ) (w ends old : List ℕ) (left checks width : ℕ) (absent wrong : Refusal) (t : Taken) : Type 0 where
-  pub asks : Asks code at w ends old left checks
-  pub is : t ≡ taken width absent wrong (popped ends left)
+-- an element is popped on the way to an oracle terminal's value, and must have a width: it lies within the bytes, and what is left to do (k) is done with it, if there is one
+module _ (w ends old : List ℕ) (sound : endsSound 0 (length w) ends ≡ true) (h : Witness) (few : h .left ≤ length ends) (width : ℕ) (absent wrong : Refusal) where
+  abbrev place : Place
+  place = placed width absent wrong (popped ends (h .left))
 
--- then the terminal may go by the same, the element lies within the bytes, and what is left to do (k) is done with it, if there is one
-module _ {code : List ℕ} {at : ℕ} {w ends old : List ℕ} {left checks width : ℕ} {absent wrong : Refusal} {t : Taken}
-    (pops : Pops code at w ends old left checks width absent wrong t) where
-  fewer : t .left ≤ left
-  fewer = rw (pops .is) (taken-fewer ends left width absent wrong)
+  pub lies : (t : Place) → place ≡ t → Lies w width t
+  lies (Place.At p) e = taken-within w ends old sound (h .left) width p absent wrong few e
+  lies (Place.Refused x) e = tt
 
-  pub pops-asks : Asks code at w ends old (t .left) checks
-  pops-asks =
-      let a = pops .asks in
-      record { operands = a .operands; room = a .room; few = omega (arith, a .few, fewer); sound = a .sound }
-
-  pub pops-within : (p : ℕ) → t .place ≡ Place.At p → p + width ≤ length w
-  pops-within p e = taken-within w ends old (pops .asks .sound) left width p absent wrong (pops .asks .few) (rw (pops .is) at e)
-
-  pop-is : pop width absent wrong (stateOf w ends old left checks) ≡ placeOutcome w ends old (pops .asks .sound) width checks (t .left) (t .place)
-  pop-is = rw (pops .is) (pop-taken w ends old (pops .asks .sound) left width checks absent wrong (pops .asks .few))
+  pop-is : pop width absent wrong (stateOf w ends old (h .left) (h .checks)) ≡ placeOutcome w ends old sound width (h .checks) (h .left - 1) place
+  pop-is = pop-taken w ends old sound (h .left) width (h .checks) absent wrong few
 
   module _ (k : List ℕ → State → Outcome ℤ) where
-    pub pops-found : (new : List ℕ) (p : ℕ) (r : Answered) → t .place ≡ Place.At p → Gives (k (take width (drop p w))) w ends old new (t .left) checks r
-        → Gives (λ st. onward (pop width absent wrong st) k) w ends old new left checks r
-    pops-found new p r e g =
-        record { gives = rw (pop-is, e) (g .gives); fewer = omega (arith, g .fewer, fewer); more = g .more; one = g .one; kept = g .kept }
+    pops-found : (new : List ℕ) (p : ℕ) (v : Value) (h′ : Witness) → place ≡ Place.At p → Gives (k (take width (drop p w))) w ends old new (fewer h) v h′
+        → Gives (λ st. onward (pop width absent wrong st) k) w ends old new h v h′
+    pops-found new p v h′ e g =
+        record { gives = rw (pop-is, e) (g .gives); fewer = omega (arith, g .fewer); more = g .more; one = g .one; kept = g .kept }
 
-    pub pops-refused : (x : Refusal) → t .place ≡ Place.Refused x
-        → Gives (λ st. onward (pop width absent wrong st) k) w ends old old left checks (record { value = Value.Refused x; left = t .left; checks = checks })
-    pops-refused x e = record { gives = rw (pop-is, e); fewer = fewer; more = omega arith; one = omega arith; kept = refl }
+    pops-refused : (x : Refusal) → place ≡ Place.Refused x → Gives (λ st. onward (pop width absent wrong st) k) w ends old old h (Value.Refused x) (fewer h)
+    pops-refused x e = record { gives = rw (pop-is, e); fewer = omega arith; more = omega arith; one = omega arith; kept = refl }
+
+-- the record after a pop, if there was one
+pub few-taken : (t : Place) (h : Witness) (n : ℕ) → h .left ≤ n → takenWitness t h .left ≤ n
+few-taken (Place.At p) h n few = omega (arith, few)
+few-taken (Place.Refused x) h n few = few
+
+checks-taken : (t : Place) (h : Witness) → takenWitness t h .checks ≡ h .checks
+checks-taken (Place.At p) h = refl
+checks-taken (Place.Refused x) h = refl
+
+-- the three pops of an oracle terminal, by what each gave
+module _ (code : List ℕ) (at : ℕ) (w ends old : List ℕ) (sound : endsSound 0 (length w) ends ≡ true) where
+  abbrev key : List ℕ
+  key = keyAt code at
+
+  abbrev time : ℕ
+  time = timeAt code at
+
+  abbrev timeOf : Place → Witness → Place
+  timeOf t h = takenPlace t 8 Refusal.MissingTimestamp Refusal.Timstamp8BytePush ends h
+
+  abbrev signatureOf : Place → Witness → Place
+  signatureOf t h = takenPlace t 64 Refusal.MissingOracleSignature Refusal.MalformedSig ends h
+
+  -- what is had after each pop, where t is what the price's gave
+  abbrev after₂ : Place → Witness → Witness
+  after₂ t h = takenWitness t (fewer h)
+
+  abbrev after₃ : Place → Witness → Witness
+  after₃ t h = takenWitness (timeOf t (fewer h)) (after₂ t h)
+
+  lies-taken : (t : Place) (h : Witness) → h .left ≤ length ends → (width : ℕ) (absent wrong : Refusal) → Lies w width (takenPlace t width absent wrong ends h)
+  lies-taken (Place.At p) h few width absent wrong = lies w ends old sound h few width absent wrong _ refl
+  lies-taken (Place.Refused x) h few width absent wrong = tt
+
+  -- so the three of a terminal are what is judged
+  pub judges : (h : Witness) → h .left ≤ length ends → at + 40 ≤ length code → 112 * h .checks + 112 ≤ length old → (p : Place) → placed 8 Refusal.MissingPrice Refusal.Price8BytePush (popped ends (h .left)) ≡ p
+      → Judges code at w old (after₃ p h .checks) p (timeOf p (fewer h)) (signatureOf (timeOf p (fewer h)) (after₂ p h))
+  judges h few operands room p e =
+      let few₁ : fewer h .left ≤ length ends = omega (arith, few) in
+      let same : after₃ p h .checks ≡ h .checks = checks-taken (timeOf p (fewer h)) (after₂ p h) ∙ checks-taken p (fewer h) in
+      record {
+        operands = operands;
+        room = rw same room;
+        price-lies = lies w ends old sound h few 8 Refusal.MissingPrice Refusal.Price8BytePush p e;
+        time-lies = lies-taken p (fewer h) few₁ 8 Refusal.MissingTimestamp Refusal.Timstamp8BytePush;
+        signature-lies = lies-taken (timeOf p (fewer h)) (after₂ p h) (few-taken p (fewer h) (length ends) few₁) 64 Refusal.MissingOracleSignature Refusal.MalformedSig;
+      }
+
+  -- what is judged of them is what the terminal gives
+  module _ (new : List ℕ) (r : Judged) where
+    third : (p t : ℕ) (h : Witness) → h .left ≤ length ends → (s : Place) → signatureOf (Place.At t) h ≡ s → Settles code at w old new (h .checks) r (Place.At p) (Place.At t) s
+        → Gives (afterTime key time (take 8 (drop p w)) (take 8 (drop t w))) w ends old new h (r .value) (record { left = h .left - 1; checks = r .checks })
+    third p t h few (Place.At q) e g =
+        pops-found w ends old sound h few 64 Refusal.MissingOracleSignature Refusal.MalformedSig (afterSignature key time (take 8 (drop p w)) (take 8 (drop t w))) new q (r .value) _ e (g ends (h .left - 1))
+    third p t h few (Place.Refused x) e g =
+        rw (g .0, g .1) (pops-refused w ends old sound h few 64 Refusal.MissingOracleSignature Refusal.MalformedSig (afterSignature key time (take 8 (drop p w)) (take 8 (drop t w))) x e)
+
+    second : (p : ℕ) (h : Witness) → h .left ≤ length ends → (t : Place) → timeOf (Place.At p) h ≡ t → Settles code at w old new (takenWitness t (fewer h) .checks) r (Place.At p) t (signatureOf t (fewer h))
+        → Gives (afterPrice key time (take 8 (drop p w))) w ends old new h (r .value) (record { left = takenWitness t (fewer h) .left; checks = r .checks })
+    second p h few (Place.At t) e g =
+        pops-found w ends old sound h few 8 Refusal.MissingTimestamp Refusal.Timstamp8BytePush (afterTime key time (take 8 (drop p w))) new t (r .value) _ e (third p t (fewer h) (omega (arith, few)) _ refl g)
+    second p h few (Place.Refused x) e g =
+        rw (g .0, g .1) (pops-refused w ends old sound h few 8 Refusal.MissingTimestamp Refusal.Timstamp8BytePush (afterTime key time (take 8 (drop p w))) x e)
+
+    pub first : (h : Witness) → h .left ≤ length ends → (p : Place) → placed 8 Refusal.MissingPrice Refusal.Price8BytePush (popped ends (h .left)) ≡ p
+        → Settles code at w old new (after₃ p h .checks) r p (timeOf p (fewer h)) (signatureOf (timeOf p (fewer h)) (after₂ p h))
+        → Gives (oracle key time) w ends old new h (r .value) (record { left = after₃ p h .left; checks = r .checks })
+    unfolding oracle
+    first h few (Place.At p) e g =
+        pops-found w ends old sound h few 8 Refusal.MissingPrice Refusal.Price8BytePush (afterPrice key time) new p (r .value) _ e (second p (fewer h) (omega (arith, few)) _ refl g)
+    first h few (Place.Refused x) e g =
+        rw (g .0, g .1) (pops-refused w ends old sound h few 8 Refusal.MissingPrice Refusal.Price8BytePush (afterPrice key time) x e)
 
 -- the terminal's time
 pub time-is : (code : List ℕ) (at t : ℕ) → Read64 code (at + 32) t → timeAt code at ≡ t
@@ -91,7 +154,7 @@ module _ (code : List ℕ) (at : ℕ) (w ends old : List ℕ) (p t q left checks
   rest = afterSignature (keyAt code at) (timeAt code at) (take 8 (drop p w)) (take 8 (drop t w)) (take 64 (drop q w))
 
   pub judged-late : time < bytesValue (take 8 (drop t w))
-      → Gives rest w ends old old left checks (record { value = Value.Refused Refusal.TimestampInFuture; left = left; checks = checks })
+      → Gives rest w ends old old (record { left = left; checks = checks }) (Value.Refused Refusal.TimestampInFuture) (record { left = left; checks = checks })
   judged-late h =
       record {
         gives = rw (time-is code at time terminal, lt-ltb time (bytesValue (take 8 (drop t w))) h);
@@ -126,7 +189,7 @@ module _ (code : List ℕ) (at : ℕ) (w ends old : List ℕ) (p t q left checks
         drop-at (take (112 * checks) old ++ check) (drop (112 * checks + 112) old) (112 * (checks + 1)) front-length ∙ ap (λ (k : ℕ). drop k old) e
 
     pub judged-listed : (n : ℕ) → n ≡ bytesValue (take 8 (drop p w)) → (v : Value) → v ≡ priced n
-        → Gives rest w ends old new left checks (record { value = v; left = left; checks = checks + 1 })
+        → Gives rest w ends old new (record { left = left; checks = checks }) v (record { left = left; checks = checks + 1 })
     judged-listed n e v is =
         record {
           gives =

@@ -9,8 +9,6 @@ use Rattle.semantics.specs.Evaluate.{elements}
 use Rattle.semantics.specs.Evaluation.{State}
 use Rattle.witness.specs.declared.Element.{Element}
 use Rattle.witness.specs.declared.Place.{Place}
-use Rattle.witness.specs.declared.Popped.{Popped}
-use Rattle.witness.specs.declared.Taken.{Taken}
 use Rattle.witness.specs.declared.Witness.{Witness}
 
 -- where element k starts
@@ -19,20 +17,26 @@ startOf ends zero = 0
 startOf ends (suc k) = getD ends k 0
 
 -- the top one of so many elements
-abbrev pub popped : List ℕ → ℕ → Popped
-popped ends zero = record { element = Element.Missing; left = 0 }
-popped ends (suc k) = record { element = Element.Span (startOf ends k) (getD ends k 0); left = k }
+abbrev pub popped : List ℕ → ℕ → Element
+popped ends zero = Element.Missing
+popped ends (suc k) = Element.Span (startOf ends k) (getD ends k 0)
 
 -- the lent count after a pop
 abbrev pub fewer : Witness → Witness
-fewer w = record { left = w .left - 1 }
+fewer w = record { left = w .left - 1; checks = w .checks }
 
 abbrev pub placed : ℕ → Refusal → Refusal → Element → Place
 placed width absent wrong Element.Missing = Place.Refused absent
 placed width absent wrong (Element.Span start end) = cond (leb start end && eqb (end - start) width) (Place.At start) (Place.Refused wrong)
 
-abbrev pub taken : ℕ → Refusal → Refusal → Popped → Taken
-taken width absent wrong p = record { place = placed width absent wrong (p .element); left = p .left }
+-- a pop that follows one that gave a place, or a refusal, after which nothing is popped
+abbrev pub takenPlace : Place → ℕ → Refusal → Refusal → List ℕ → Witness → Place
+takenPlace (Place.At p) width absent wrong ends w = placed width absent wrong (popped ends (w .left))
+takenPlace (Place.Refused x) width absent wrong ends w = Place.Refused x
+
+abbrev pub takenWitness : Place → Witness → Witness
+takenWitness (Place.At p) w = fewer w
+takenWitness (Place.Refused x) w = w
 
 -- the elements left, the top first
 unfoldable pub leftOf : List ℕ → List ℕ → ℕ → List (List ℕ)

@@ -8,8 +8,8 @@ ghost use Prim.Native.Nat.{ℕ, _+_, _-_, _*_, _≤_, _<_};
 ghost use lib.ListN.{length, take, drop};
 ghost use Rattle.semantics.specs.Evaluate.{endsSound};
 ghost use Rattle.semantics.specs.Evaluation.{oracle};
-ghost use Rattle.witness.specs.Elements.{fewer, popped, taken};
-ghost use Rattle.witness.specs.Oracle.{Asks, Gives, afterPrice, afterSignature, afterTime, checkOf, keyAt, priced, timeAt};
+ghost use Rattle.witness.specs.Elements.{fewer, placed, popped, takenPlace, takenWitness};
+ghost use Rattle.witness.specs.Oracle.{Asks, Gives, Judges, Settles, afterSignature, checkOf, keyAt, priced, timeAt};
 
 // The parts of a check: key and time of the terminal, price and signature of the witness.
 const KEY_BYTES: usize = 32;
@@ -27,9 +27,10 @@ pub const CHECK_BYTES: usize = SIGNATURE_AT + SIGNATURE_BYTES;
 // Prices from 2^63 on have no value.
 const PRICE_LIMIT: u64 = 0x8000_0000_0000_0000;
 
-// The elements of the witness that are left: lent, and popped in place.
-struct Witness {
+// What an evaluation has of its witness: how many elements are left, and how many checks are listed. One record is lent to every oracle terminal, and popped in place.
+pub struct Witness {
     pub left: usize,
+    pub checks: usize,
 }
 
 // Where an element that was popped starts and ends, if there was one.
@@ -38,27 +39,15 @@ enum Element {
     Span(usize, usize),
 }
 
-// An element that was popped, and how many are left.
-struct Popped {
-    pub element: Element,
-    pub left: usize,
-}
-
 // Where an element of the right width starts, or why there is none.
 enum Place {
     At(usize),
     Refused(Refusal),
 }
 
-struct Taken {
-    pub place: Place,
-    pub left: usize,
-}
-
-// What an oracle terminal gives, with how many elements are left and checks written.
-pub struct Answered {
+// What an oracle terminal gives, with how many checks are listed.
+struct Judged {
     pub value: Value,
-    pub left: usize,
     pub checks: usize,
 }
 
@@ -96,7 +85,7 @@ fn lowered(n: usize) -> usize
 // The last of n elements.
 fn last_of(ends: &[u32], n: usize) -> Element
     requires { ⌜ n ≤ length (now ends) ⌝ }
-    ensures { λ r. ⌜ r ≡ popped (now (ends .entry)) n .element ⌝ }
+    ensures { λ r. ⌜ r ≡ popped (now (ends .entry)) n ⌝ }
 {
     if n == 0 {
         return Element::Missing;
@@ -112,55 +101,48 @@ fn last_of(ends: &[u32], n: usize) -> Element
 // The top element; the lent count of those that are left falls. Every pop is this one.
 fn pop(w: &mut Witness, ends: &[u32]) -> Element
     requires { ⌜ now w .left ≤ length (now ends) ⌝ }
-    ensures { λ r. ⌜ (r ≡ popped (now (ends .entry)) (now (w .entry) .left) .element) × (now (w .exit) ≡ fewer (now (w .entry))) ⌝ }
+    ensures { λ r. ⌜ (r ≡ popped (now (ends .entry)) (now (w .entry) .left)) × (now (w .exit) ≡ fewer (now (w .entry))) ⌝ }
 {
     let n = w.left;
     w.left = lowered(n);
     last_of(ends, n)
 }
 
-// The same for a count that is passed by value.
-fn pop_at(ends: &[u32], left: usize) -> Popped
-    requires { ⌜ left ≤ length (now ends) ⌝ }
-    ensures { λ r. ⌜ r ≡ popped (now (ends .entry)) left ⌝ }
+// Where an element of a width starts.
+fn place_of(element: Element, width: usize, absent: Refusal, wrong: Refusal) -> Place
+    ensures { λ r. ⌜ r ≡ placed width absent wrong element ⌝ }
 {
-    let mut w = Witness { left };
-    let element = pop(&mut w, ends);
-    Popped {
-        element,
-        left: w.left,
+    match element {
+        Element::Missing => Place::Refused(absent),
+        Element::Span(start, end) => {
+            if end < start {
+                return Place::Refused(wrong);
+            }
+            if end - start != width {
+                return Place::Refused(wrong);
+            }
+            Place::At(start)
+        }
     }
 }
 
-// The top element, which must have a width; a popped element stays popped.
-fn take(ends: &[u32], left: usize, width: usize, absent: Refusal, wrong: Refusal) -> Taken
-    requires { ⌜ left ≤ length (now ends) ⌝ }
-    ensures { λ r. ⌜ r ≡ taken width absent wrong (popped (now (ends .entry)) left) ⌝ }
+// The top element, which must have a width; nothing is popped after a refusal.
+fn take(
+    w: &mut Witness,
+    ends: &[u32],
+    before: Place,
+    width: usize,
+    absent: Refusal,
+    wrong: Refusal,
+) -> Place
+    requires { ⌜ now w .left ≤ length (now ends) ⌝ }
+    ensures { λ r. ⌜ (r ≡ takenPlace before width absent wrong (now (ends .entry)) (now (w .entry))) × (now (w .exit) ≡ takenWitness before (now (w .entry))) ⌝ }
 {
-    let p = pop_at(ends, left);
-    let element = p.element;
-    match element {
-        Element::Missing => Taken {
-            place: Place::Refused(absent),
-            left: p.left,
-        },
-        Element::Span(start, end) => {
-            if end < start {
-                return Taken {
-                    place: Place::Refused(wrong),
-                    left: p.left,
-                };
-            }
-            if end - start != width {
-                return Taken {
-                    place: Place::Refused(wrong),
-                    left: p.left,
-                };
-            }
-            Taken {
-                place: Place::At(start),
-                left: p.left,
-            }
+    match before {
+        Place::Refused(_) => before,
+        Place::At(_) => {
+            let element = pop(w, ends);
+            place_of(element, width, absent, wrong)
         }
     }
 }
@@ -199,7 +181,7 @@ fn price_value(price: u64) -> Value
 
 // ---- the oracle terminal whose key and time stand at `at`
 
-// After its three pops: the time is judged, the check listed, and then the price judged.
+// After its three pops, which gave price, time and signature: the time is judged, the check listed, and then the price judged.
 fn judge(
     code: &[u8],
     at: usize,
@@ -208,98 +190,55 @@ fn judge(
     time: usize,
     signature: usize,
     out: &mut [u8],
-    left: usize,
     checks: usize,
-) -> Answered
+) -> Judged
     requires { ⌜ (at + 40 ≤ length (now code)) × (112 * checks + 112 ≤ length (now out)) × (price + 8 ≤ length (now witness)) × (time + 8 ≤ length (now witness)) × (signature + 64 ≤ length (now witness)) ⌝ }
-    ensures { λ r. ⌜ ((ends : List ℕ) → Gives (afterSignature (keyAt (now (code .entry)) at) (timeAt (now (code .entry)) at) (take 8 (drop price (now (witness .entry)))) (take 8 (drop time (now (witness .entry)))) (take 64 (drop signature (now (witness .entry))))) (now (witness .entry)) ends (now (out .entry)) (now (out .exit)) left checks r) ⌝ }
+    ensures { λ r. ⌜ ((ends : List ℕ) (left : ℕ) → Gives (afterSignature (keyAt (now (code .entry)) at) (timeAt (now (code .entry)) at) (take 8 (drop price (now (witness .entry)))) (take 8 (drop time (now (witness .entry)))) (take 64 (drop signature (now (witness .entry))))) (now (witness .entry)) ends (now (out .entry)) (now (out .exit)) (record { left = left; checks = checks }) (r .value) (record { left = left; checks = r .checks })) ⌝ }
 {
     if slices::read_le64(code, at + KEY_BYTES) < slices::read_le64(witness, time) {
-        return Answered {
+        return Judged {
             value: Value::Refused(Refusal::TimestampInFuture),
-            left,
             checks,
         };
     }
     list_check(code, at, witness, price, signature, out, checks);
-    Answered {
+    Judged {
         value: price_value(slices::read_le64(witness, price)),
-        left,
         checks: checks + 1,
     }
 }
 
-// After price and time.
-fn after_time(
+// The same by what the pops gave: a refusal of one is the refusal of those after it.
+fn settle(
     code: &[u8],
     at: usize,
     witness: &[u8],
-    ends: &[u32],
-    price: usize,
-    time: usize,
+    price: Place,
+    time: Place,
+    signature: Place,
     out: &mut [u8],
-    left: usize,
     checks: usize,
-) -> Answered
-    requires { ⌜ Asks (now code) at (now witness) (now ends) (now out) left checks × (price + 8 ≤ length (now witness)) × (time + 8 ≤ length (now witness)) ⌝ }
-    ensures { λ r. ⌜ Gives (afterTime (keyAt (now (code .entry)) at) (timeAt (now (code .entry)) at) (take 8 (drop price (now (witness .entry)))) (take 8 (drop time (now (witness .entry))))) (now (witness .entry)) (now (ends .entry)) (now (out .entry)) (now (out .exit)) left checks r ⌝ }
+) -> Judged
+    requires { ⌜ Judges (now code) at (now witness) (now out) checks price time signature ⌝ }
+    ensures { λ r. ⌜ Settles (now (code .entry)) at (now (witness .entry)) (now (out .entry)) (now (out .exit)) checks r price time signature ⌝ }
 {
-    let t = take(
-        ends,
-        left,
-        SIGNATURE_BYTES,
-        Refusal::MissingOracleSignature,
-        Refusal::MalformedSig,
-    );
-    let place = t.place;
-    match place {
-        Place::At(signature) => judge(
-            code,
-            at,
-            witness,
-            price,
-            time,
-            signature,
-            out,
-            t.left,
-            checks,
-        ),
-        Place::Refused(r) => Answered {
+    match signature {
+        Place::Refused(r) => Judged {
             value: Value::Refused(r),
-            left: t.left,
             checks,
         },
-    }
-}
-
-// After the price.
-fn after_price(
-    code: &[u8],
-    at: usize,
-    witness: &[u8],
-    ends: &[u32],
-    price: usize,
-    out: &mut [u8],
-    left: usize,
-    checks: usize,
-) -> Answered
-    requires { ⌜ Asks (now code) at (now witness) (now ends) (now out) left checks × (price + 8 ≤ length (now witness)) ⌝ }
-    ensures { λ r. ⌜ Gives (afterPrice (keyAt (now (code .entry)) at) (timeAt (now (code .entry)) at) (take 8 (drop price (now (witness .entry))))) (now (witness .entry)) (now (ends .entry)) (now (out .entry)) (now (out .exit)) left checks r ⌝ }
-{
-    let t = take(
-        ends,
-        left,
-        NUMBER_BYTES,
-        Refusal::MissingTimestamp,
-        Refusal::Timstamp8BytePush,
-    );
-    let place = t.place;
-    match place {
-        Place::At(time) => after_time(code, at, witness, ends, price, time, out, t.left, checks),
-        Place::Refused(r) => Answered {
-            value: Value::Refused(r),
-            left: t.left,
-            checks,
+        Place::At(s) => match price {
+            Place::Refused(r) => Judged {
+                value: Value::Refused(r),
+                checks,
+            },
+            Place::At(p) => match time {
+                Place::Refused(r) => Judged {
+                    value: Value::Refused(r),
+                    checks,
+                },
+                Place::At(t) => judge(code, at, witness, p, t, s, out, checks),
+            },
         },
     }
 }
@@ -311,26 +250,37 @@ pub fn ask(
     witness: &[u8],
     ends: &[u32],
     out: &mut [u8],
-    left: usize,
-    checks: usize,
-) -> Answered
-    requires { ⌜ Asks (now code) at (now witness) (now ends) (now out) left checks ⌝ }
-    ensures { λ r. ⌜ Gives (oracle (keyAt (now (code .entry)) at) (timeAt (now (code .entry)) at)) (now (witness .entry)) (now (ends .entry)) (now (out .entry)) (now (out .exit)) left checks r ⌝ }
+    w: &mut Witness,
+) -> Value
+    requires { ⌜ Asks (now code) at (now witness) (now ends) (now out) (now w) ⌝ }
+    ensures { λ r. ⌜ Gives (oracle (keyAt (now (code .entry)) at) (timeAt (now (code .entry)) at)) (now (witness .entry)) (now (ends .entry)) (now (out .entry)) (now (out .exit)) (now (w .entry)) r (now (w .exit)) ⌝ }
 {
-    let t = take(
+    let price = take(
+        w,
         ends,
-        left,
+        Place::At(0),
         NUMBER_BYTES,
         Refusal::MissingPrice,
         Refusal::Price8BytePush,
     );
-    let place = t.place;
-    match place {
-        Place::At(price) => after_price(code, at, witness, ends, price, out, t.left, checks),
-        Place::Refused(r) => Answered {
-            value: Value::Refused(r),
-            left: t.left,
-            checks,
-        },
-    }
+    let time = take(
+        w,
+        ends,
+        price,
+        NUMBER_BYTES,
+        Refusal::MissingTimestamp,
+        Refusal::Timstamp8BytePush,
+    );
+    let signature = take(
+        w,
+        ends,
+        time,
+        SIGNATURE_BYTES,
+        Refusal::MissingOracleSignature,
+        Refusal::MalformedSig,
+    );
+    let checks = w.checks;
+    let j = settle(code, at, witness, price, time, signature, out, checks);
+    w.checks = j.checks;
+    j.value
 }

@@ -6,19 +6,19 @@ use Rattle.witness.proofs.judge.Statement.{statement}
 use Rattle.witness.proofs.judge.Tie as tie
 
 returns : tie.Need-returns
-returns c ends =
+returns c ends left =
     let a = c .before .before .before .before .before .before .args in
-    judged-late (a .code .now) (a .at) (a .witness .now) ends (a .out .now) (a .price) (a .time) (a .signature) (a .left) (a .checks) _
+    judged-late (a .code .now) (a .at) (a .witness .now) ends (a .out .now) (a .price) (a .time) (a .signature) left (a .checks) _
     (c .before .before .read-le64 .ensures) (rw (c .before .read-le642 .ensures .value) at (c .if1 .taken))
 
 returns-2 : tie.Need-returns-2
-returns-2 c ends =
+returns-2 c ends left =
     let p = c .before .before .before .before .before .before .before .before .before .before .before .before in
     let a = p .args in
     let r = p .pre in
     let intime = rw (c .before .before .before .before .before .before .before .read-le642 .ensures .value) at (c .before .before .before .before .before .before .if1 .left) in
     rw (c .before .before .before .before .list-check .ensures)
-    (judged-listed (a .code .now) (a .at) (a .witness .now) ends (a .out .now) (a .price) (a .time) (a .signature) (a .left) (a .checks) _ (c .before .before .before .before .before .before .before .before .read-le64 .ensures)
+    (judged-listed (a .code .now) (a .at) (a .witness .now) ends (a .out .now) (a .price) (a .time) (a .signature) left (a .checks) _ (c .before .before .before .before .before .before .before .before .read-le64 .ensures)
     (r .1) (r .0) (r .2) (r .4) intime _ (c .before .read-le643 .ensures .value) _ (c .price-value .ensures))
 
 pub judge-spec : {M : Type 1} → statement M

@@ -77,17 +77,20 @@ module _ {M : Type 1} (𝓤 : URA M) (H : Heap 𝓤) (A : Atoms 𝓤) (at-mem : 
   lowered-of : (n r : ℕ) → ent 𝓤 (ensured 𝓤 H A lowered.ended (lowered.clauses 𝓤 H A at-mem run) tt (n, tt) tt r) (fact 𝓤 (r ≡ n - 1))
   lowered-of n r = exE 𝓤 _ (λ ws. snd∗ 𝓤 (sem 𝓤 H A (lasts lowered.ended tt (n, tt) ws)) (fact 𝓤 (r ≡ n - 1)))
 
-  last-of-of : (κ : Lft) (s : RefT (List ℕ)) (n : ℕ) (r : Element) → ent 𝓤 (ensured 𝓤 H A last-of.ended (last-of.clauses 𝓤 H A at-mem run) (κ, tt) (s, (n, tt)) tt r) (fact 𝓤 (r ≡ popped (s .now) n .element))
-  last-of-of κ s n r = exE 𝓤 _ (λ ws. snd∗ 𝓤 (sem 𝓤 H A (lasts last-of.ended (κ, tt) (s, (n, tt)) ws)) (fact 𝓤 (r ≡ popped (s .now) n .element)))
+  last-of-of : (κ : Lft) (s : RefT (List ℕ)) (n : ℕ) (r : Element) → ent 𝓤 (ensured 𝓤 H A last-of.ended (last-of.clauses 𝓤 H A at-mem run) (κ, tt) (s, (n, tt)) tt r) (fact 𝓤 (r ≡ popped (s .now) n))
+  last-of-of κ s n r = exE 𝓤 _ (λ ws. snd∗ 𝓤 (sem 𝓤 H A (lasts last-of.ended (κ, tt) (s, (n, tt)) ws)) (fact 𝓤 (r ≡ popped (s .now) n)))
 
 -- κ, q, (b, o), γ, h: the struct's borrow. κ′, q′, s: that of ends
 module _ {M : Type 1} (𝓤 : URA M) (H : Heap 𝓤) (A : Atoms 𝓤) (W : Given 𝓤 H A) (at-mem : Memory → SProp 𝓤) (run : Routine → Fun 𝓤) (κ κ′ : Lft) (q q′ : Share) (b o : ℕ) (γ : GName) (h : Witness) (s : RefT (List ℕ)) where
   abbrev n : ℕ
   n = h .left
 
+  abbrev k : ℕ
+  k = h .checks
+
   -- the struct with the count m
   abbrev at-count : ℕ → Witness
-  at-count m = record { left = m }
+  at-count m = record { left = m; checks = k }
 
   abbrev Arg : Type 0
   Arg = RefT Witness × (RefT (List ℕ) × Unit {0})
@@ -103,7 +106,7 @@ module _ {M : Type 1} (𝓤 : URA M) (H : Heap 𝓤) (A : Atoms 𝓤) (W : Given
   vals = (vptr b o ∷ [], (sv ∷ [], tt))
 
   abbrev mach : ℕ → Val
-  mach m = vstruct (vcons (vint w64 m) vnil)
+  mach m = vstruct (vcons (vint w64 m) (vcons (vint w64 k) vnil))
 
   abbrev Ends : Fml
   Ends = ShrSlice (named 1) κ′ u32 .own s (sv ∷ [])
@@ -116,7 +119,7 @@ module _ {M : Type 1} (𝓤 : URA M) (H : Heap 𝓤) (A : Atoms 𝓤) (W : Given
   n-fits was = LL.owed T.the-type T′.the-laws h _ was .0 .1
 
   made : (m : ℕ) → m < 2 ^ 64 → Is-h → Is T.the-row (at-count m) (mach m ∷ [])
-  made m fits was = LL.owes T.the-type T′.the-laws (at-count m) ((refl, fits), tt)
+  made m fits was = LL.owes T.the-type T′.the-laws (at-count m) ((refl, fits), ((refl, LL.owed T.the-type T′.the-laws h _ was .1 .0 .1), tt))
 
   -- what each callee's triple binds outside, and that the caller has what it asks
   abbrev to-lowered : Lowered 𝓤 H A at-mem run .Ghost
@@ -136,7 +139,7 @@ module _ {M : Type 1} (𝓤 : URA M) (H : Heap 𝓤) (A : Atoms 𝓤) (W : Given
   abbrev Post : Val → SProp 𝓤
   Post = walkOf 𝓤 H A f.ended stayed (f.clauses 𝓤 H A at-mem run) .post (((κ, (κ′, tt)), (q, (q′, tt)), tt, x, vals), tt)
 
-  exits : (m : ℕ) (r : Element) (v : Val) → m ≡ n - 1 → r ≡ popped (s .now) n .element
+  exits : (m : ℕ) (r : Element) (v : Val) → m ≡ n - 1 → r ≡ popped (s .now) n
       → ent 𝓤 (⋆ 𝓤 H A (‵ (E.the-row .own r (v ∷ [])) ∷ (‵ (flft κ′ q′) ⊛ ‵ ftrue) ∷ ‵ Ends ∷ ‵ (fobs γ (T.the-row .coded .code (at-count m))) ∷ ‵ (fbor κ (Body (mem T.the-row) b o γ)) ∷ ‵ (flft κ q) ∷ [])) (Post v)
   exits m r v e₁ e₂ =
       qed W (‵ (E.the-row .own r (v ∷ [])) ∷ (‵ (flft κ′ q′) ⊛ ‵ ftrue) ∷ ‵ Ends ∷ ‵ (fobs γ (T.the-row .coded .code (at-count m))) ∷ ‵ (fbor κ (Body (mem T.the-row) b o γ)) ∷ ‵ (flft κ q) ∷ []) ∵
@@ -172,7 +175,7 @@ module _ {M : Type 1} (𝓤 : URA M) (H : Heap 𝓤) (A : Atoms 𝓤) (W : Given
         use2 W (raw (LastOf 𝓤 H A at-mem run .pre to-last-of)) (goes-last-of (n-fits was) within) $
         calls-at ! fm (LastOf 𝓤 H A at-mem run) known-last-of to-last-of (and-then ! (load ! (from ! (stop !)) (look ! 10 refl)) (and-then ! (load ! (from ! (stop !)) (look ! 8 refl)) (no-more !))) (λ v.
         use1 W (later (some (λ (r : Element). ((‵ (flft κ′ q′) ⊛ ‵ ftrue) ⊛ ‵ (E.the-row .own r (v ∷ []))) ⊛ raw (ensured 𝓤 H A last-of.ended (last-of.clauses 𝓤 H A at-mem run) (κ′, tt) (s, (n, tt)) tt r)))) (id⊢ 𝓤 _) $ await ! tt $ pick ! (λ r.
-        split ! $ move ! (1 ∷ []) $ use1 W (raw (fact 𝓤 (r ≡ popped (s .now) n .element))) (last-of-of 𝓤 H A at-mem run κ′ s n r) $ heard ! (r ≡ popped (s .now) n .element) (λ e₂. split ! $ move ! (1 ∷ []) $
+        split ! $ move ! (1 ∷ []) $ use1 W (raw (fact 𝓤 (r ≡ popped (s .now) n))) (last-of-of 𝓤 H A at-mem run κ′ s n r) $ heard ! (r ≡ popped (s .now) n) (λ e₂. split ! $ move ! (1 ∷ []) $
         -- [the result; the token of κ′; ends'; true; obs; the borrow; the token of κ; _4; …; _3; …; _2; …; _1; …; room for _0; …]
         peeks ! E.the-row (Is E.the-row) (shows 𝓤 H A E.the-row) r (v ∷ []) (λ is-r. land ! (from ! (stop !)) (init ! 15 refl (EL.lawful E.the-type E′.the-laws 𝓤 H A W tt .typed r _ is-r .0)) $
         returns ! (look ! 15 refl) $ forget ! 7 refl $ forget ! 9 refl $ forget ! 11 refl $ forget ! 13 refl $ forget ! 15 refl $
