@@ -1,6 +1,7 @@
 -- Soundness of records: by fields (`sound-fields`), record after record (`unsound-here` ..), and what sound records are (`ready-numbered`, `ready-whole`).
 use Prim.Native.Nat.{ℕ, zero, suc, _+_, _-_, _^_, _≤_, _<_}
 use mathlib.Core.Bool.{Bool, true, false, cond, not, _&&_, _||_}
+use mathlib.Core.Logic.{_⊎_, inl, inr}
 use mathlib.Core.Option.{Option, none, some}
 use mathlib.Core.Path.{_≡_, refl}
 use native.Mathlib.Nat.{add-suc, add-zero, suc-add, zero-add}
@@ -25,6 +26,14 @@ no-number r i h = rw (le-ltb i (length (r .numbers)) h)
 
 pub no-place : (r : Records) (i : ℕ) → i < length (r .numbers) → length (r .places) ≤ i → soundAt r i ≡ false
 no-place r i h g = rw (lt-ltb i (length (r .numbers)) h, le-ltb i (length (r .places)) g)
+
+pub no-field : (r : Records) (i : ℕ) → (length (r .numbers) ≤ i) ⊎ (length (r .places) ≤ i) → soundAt r i ≡ false
+no-field r i (inl h) = no-number r i h
+no-field r i (inr h) = go (ltb i (length (r .numbers))) refl
+  where
+    go : (b : Bool) → ltb i (length (r .numbers)) ≡ b → soundAt r i ≡ false
+    go true e = no-place r i (ltb-true i (length (r .numbers)) e) h
+    go false e = no-number r i (ltb-false i (length (r .numbers)) e)
 
 -- one record after the other
 pub unsound-here : (r : Records) (i n : ℕ) → i < n → soundAt r i ≡ false → unsoundFrom r i (n - i) ≡ some i

@@ -1,5 +1,6 @@
 -- Soundness of a record, by its fields and the number of key bytes; the first unsound one; and what is decoded.
-use Prim.Native.Nat.{ℕ, _+_, _^_, _≤_}
+use Prim.Native.Nat.{ℕ, _+_, _^_, _<_, _≤_}
+use mathlib.Core.Logic.{_⊎_}
 use mathlib.Core.Path.{_≡_}
 use mathlib.Core.Option.{Option, none, some}
 use mathlib.Core.List.{List}
@@ -24,3 +25,10 @@ pub record Ready (r : Records) (buffer : List ℕ) : Type 0 where
   pub few : length (r .kinds) ≤ maxTokens
   pub sound : unsound r ≡ none
   pub full : maxCode ≤ length buffer
+
+-- r is the shortest of three lengths; what lies between it and the first lies past the second or the third
+pub record Shortest (a b c r : ℕ) : Type 0 where
+  pub first : r ≤ a
+  pub second : r ≤ b
+  pub third : r ≤ c
+  pub past : (i : ℕ) → r ≤ i → i < a → (b ≤ i) ⊎ (c ≤ i)

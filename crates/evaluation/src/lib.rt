@@ -19,7 +19,9 @@ ghost use Rattle.semantics.specs.Run.{Run, runStep};
 mod run;
 
 // Conditions of so few tokens are evaluated in smaller arrays, which take less time to make.
-const FEW_TOKENS: usize = 64;
+const FEW_TOKENS: usize = 16;
+
+const SOME_TOKENS: usize = 128;
 
 // A condition that Check let pass, with arrays for the operands that wait.
 fn run_passed(
@@ -45,6 +47,27 @@ fn run_passed(
     if tokens <= FEW_TOKENS {
         let mut vals = [0; FEW_TOKENS];
         let mut idxs = [0; FEW_TOKENS];
+        return run::run(
+            code,
+            spent,
+            spent_marks,
+            outputs,
+            output_marks,
+            issued,
+            issued_marks,
+            reissued,
+            reissued_marks,
+            current,
+            witness,
+            ends,
+            out,
+            &mut vals,
+            &mut idxs,
+        );
+    }
+    if tokens <= SOME_TOKENS {
+        let mut vals = [0; SOME_TOKENS];
+        let mut idxs = [0; SOME_TOKENS];
         return run::run(
             code,
             spent,

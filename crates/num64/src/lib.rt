@@ -5,7 +5,7 @@ ghost use Prim.Native.Nat.{_+_, _<_, _≤_, _^_};
 ghost use lib.IntN.{pos, negsuc, natAbs, negℤ, _+ℤ_};
 ghost use lib.Signed.{mag, shrZ};
 ghost use Rattle.num64.specs.Exact.{number, signOf, restOf};
-ghost use Rattle.num64.specs.Exact.{checkedAdd, checkedSub, checkedMul, checkedNeg, checkedDiv, checkedRem, fitted};
+ghost use Rattle.num64.specs.Exact.{checkedAdd, checkedSub, checkedMul, checkedNeg, checkedDiv, checkedRem, crossed, fitted};
 
 // 2^63: the bits from here on are those of negative numbers.
 const HALF: u64 = 0x8000_0000_0000_0000;
@@ -87,33 +87,6 @@ fn signed_by(b: i64, z: Whole) -> Whole
     }
 }
 
-// m - (n + 1)
-fn difference(m: u64, n: u64) -> Whole
-    ensures { λ r. ⌜ number r ≡ pos m +ℤ negsuc n ⌝ }
-{
-    if m <= n {
-        Whole::NegSuc(n - m)
-    } else {
-        Whole::Pos(m - n - 1)
-    }
-}
-
-fn sum(x: Whole, y: Whole) -> Whole
-    requires { ⌜ (mag (number x) < 2 ^ 63) × (natAbs (number y) ≤ 2 ^ 63) ⌝ }
-    ensures { λ r. ⌜ number r ≡ number x +ℤ number y ⌝ }
-{
-    match x {
-        Whole::Pos(m) => match y {
-            Whole::Pos(n) => Whole::Pos(m + n),
-            Whole::NegSuc(n) => difference(m, n),
-        },
-        Whole::NegSuc(m) => match y {
-            Whole::Pos(n) => difference(n, m),
-            Whole::NegSuc(n) => Whole::NegSuc(m + n + 1),
-        },
-    }
-}
-
 // z by d, rounded down
 fn floor(z: Whole, d: u64) -> Whole
     requires { ⌜ 0 < d ⌝ }
@@ -136,24 +109,45 @@ fn rest(z: Whole, d: u64) -> u64
     }
 }
 
-// ---- checked arithmetic
+// ---- sums and differences of bits
 
-pub fn checked_neg(a: i64) -> Signed64
-    ensures { λ r. ⌜ r ≡ checkedNeg a ⌝ }
+// Whether t is on the other side of 2^63 than both m and n.
+fn crosses(m: u64, n: u64, t: u64) -> bool
+    ensures { λ r. ⌜ r ≡ crossed m n t ⌝ }
 {
-    fit(negated(split(a)))
+    ((t < HALF) != (m < HALF)) & ((t < HALF) != (n < HALF))
 }
+
+// ---- checked arithmetic
 
 pub fn checked_add(a: i64, b: i64) -> Signed64
     ensures { λ r. ⌜ r ≡ checkedAdd a b ⌝ }
 {
-    fit(sum(split(a), split(b)))
+    let m = word64::bits(a);
+    let n = word64::bits(b);
+    let t = std::num::wrapping_add_u64(m, n);
+    if crosses(m, n, t) {
+        return Signed64::Overflow;
+    }
+    Signed64::Value(word64::signed(t))
 }
 
 pub fn checked_sub(a: i64, b: i64) -> Signed64
     ensures { λ r. ⌜ r ≡ checkedSub a b ⌝ }
 {
-    fit(sum(split(a), negated(split(b))))
+    let m = word64::bits(a);
+    let n = word64::bits(b);
+    let t = std::num::wrapping_sub_u64(m, n);
+    if crosses(t, n, m) {
+        return Signed64::Overflow;
+    }
+    Signed64::Value(word64::signed(t))
+}
+
+pub fn checked_neg(a: i64) -> Signed64
+    ensures { λ r. ⌜ r ≡ checkedNeg a ⌝ }
+{
+    checked_sub(0, a)
 }
 
 pub fn checked_mul(a: i64, b: i64) -> Signed64

@@ -40,12 +40,17 @@ pub fn write_le64(s: &mut [u8], at: usize, n: u64)
     }
 }
 
-// n bytes of `from`, from `at` on, go to `to`, from `off` on.
+// n bytes of `from`, from `at` on, go to `to`, from `off` on: by eights, each of which is one load and one store, and then the rest.
 pub fn copy(from: &[u8], at: usize, to: &mut [u8], off: usize, n: usize)
     requires { ⌜ (at + n ≤ length (now from)) × (off + n ≤ length (now to)) ⌝ }
     ensures { λ _. ⌜ now (to .exit) ≡ paste (now (to .entry)) off (drop at (now (from .entry))) n ⌝ }
 {
     let mut i = 0;
+    while 8 <= n - i {
+        let word = read_le64(from, at + i);
+        write_le64(to, off + i, word);
+        i += 8;
+    }
     while i < n {
         to[off + i] = from[at + i];
         i += 1;

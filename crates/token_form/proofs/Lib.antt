@@ -2,4 +2,5 @@
 pub mod Over
 pub mod Operands
 pub mod Rows
+pub mod Singles
 pub mod Storing

@@ -1,11 +1,15 @@
 -- The fields of the records of a command's tokens: by its operand bytes, and by the kind.
-use Prim.Native.Nat.{ℕ}
-use mathlib.Core.Bool.{Bool, cond}
-use mathlib.Core.List.{List, []}
+use Prim.Native.Nat.{ℕ, _<_, _≤_}
+use mathlib.Core.Bool.{Bool, cond, false}
+use mathlib.Core.Path.{_≡_}
+use mathlib.Core.List.{List, [], _∷_}
 use lib.Dec.{eqb}
 use lib.ListN.{take, drop}
 use Rattle.slices.specs.Bytes.{bytesValue}
 use Rattle.semantics.specs.declared.Command.{Command}
+use Rattle.semantics.specs.Code.{commandRow}
+use Rattle.semantics.specs.Operations.{Token, op}
+use Rattle.token_table.specs.Runs.{ownTokens}
 
 -- the tokens that a mark adds
 abbrev pub bit : Bool → ℕ
@@ -40,3 +44,9 @@ payload (Command.Unary o) n = none
 payload Command.PriceOracle1 n = record { number = 1; bits = bytesValue (drop 32 n); key = take 32 n }
 payload Command.PriceOracle1W n = record { number = 1; bits = bytesValue (drop 32 n); key = take 32 n }
 payload (Command.Compare o) n = none
+
+-- the kind of a command's only token: one that carries nothing, or the number of eight operand bytes; of 0 nothing is said
+pub record Single (c : Command) (kind : ℕ) : Type 0 where
+  pub plain : 2 < kind → (commandRow c .width ≡ 0) × (eqb kind 3 ≡ false) × ((n : List ℕ) → ownTokens c n ≡ op kind ∷ [])
+  pub numbered : 0 < kind → kind ≤ 2
+      → (commandRow c .width ≡ 8) × (eqb kind 3 ≡ false) × ((n : List ℕ) → ownTokens c n ≡ record { kind = kind; number = bytesValue n; key = [] } ∷ [])

@@ -6,12 +6,12 @@ use semantics::Command;
 use token_table::run_of;
 ghost use mathlib.Core.Bool.{true};
 ghost use mathlib.Core.Path.{_≡_};
-ghost use mathlib.Core.List.{map};
+ghost use mathlib.Core.List.{[], _∷_, map};
 ghost use Prim.Native.Nat.{_+_, _≤_, _<_, _^_};
 ghost use lib.ListN.{length, take};
-ghost use Rattle.semantics.specs.Code.{commandRow, known};
+ghost use Rattle.semantics.specs.Code.{commandOf, commandRow, known};
 ghost use Rattle.semantics.specs.Evaluate.{over};
-ghost use Rattle.token_form.specs.Fields.{bit, numberAt, payload, placeAt};
+ghost use Rattle.token_form.specs.Fields.{Single, bit, numberAt, payload, placeAt};
 ghost use Rattle.semantics.specs.Parse.{operandBytes};
 ghost use Rattle.token_table.specs.Runs.{run};
 ghost use Rattle.semantics.specs.Records.{recordsOf};
@@ -181,6 +181,104 @@ fn write_command(
     Taken { records, key_bytes }
 }
 
+// The kind of the only token of a byte's command, or 0 where it has more.
+fn kind_of(byte: u8) -> u8
+    ensures { λ r. ⌜ Single (commandOf byte) r ⌝ }
+{
+    match byte {
+        1 => 1,
+        2 => 4,
+        3 => 5,
+        4 => 6,
+        16 => 2,
+        27 => 18,
+        28 => 19,
+        29 => 20,
+        30 => 21,
+        48 => 14,
+        49 => 31,
+        50 => 30,
+        51 => 29,
+        52 => 28,
+        _ => 0,
+    }
+}
+
+// One record, with no place.
+fn write_one(kind: u8, number: u64, kinds: &mut [u8], numbers: &mut [u64], places: &mut [u32])
+    requires { ⌜ (1 ≤ length (now kinds)) × (1 ≤ length (now numbers)) × (1 ≤ length (now places)) ⌝ }
+    ensures { λ _. ⌜ now (kinds .exit) ≡ over (kind ∷ []) (now (kinds .entry)) ⌝ }
+    ensures { λ _. ⌜ now (numbers .exit) ≡ over (number ∷ []) (now (numbers .entry)) ⌝ }
+    ensures { λ _. ⌜ now (places .exit) ≡ over (0 ∷ []) (now (places .entry)) ⌝ }
+{
+    kinds[0] = kind;
+    numbers[0] = number;
+    places[0] = 0;
+}
+
+// How many records and key bytes a byte's command took, and how many operand bytes it has.
+struct Next {
+    records: usize,
+    key_bytes: usize,
+    width: usize,
+}
+
+// The records of a byte's command, as `write_command` writes them; most commands have one token, which is written at once.
+fn write_next(
+    byte: u8,
+    marked: bool,
+    code: &[u8],
+    at: usize,
+    place: usize,
+    kinds: &mut [u8],
+    numbers: &mut [u64],
+    places: &mut [u32],
+    keys: &mut [u8],
+) -> Next
+    requires { ⌜ (known (commandOf byte) ≡ true) × (at + commandRow (commandOf byte) .width ≤ length (now code)) × (place < 2 ^ 32) ⌝ }
+    requires { ⌜ Room (run (commandOf byte) (operandBytes (commandOf byte) (now code) at) marked) (recordsOf (now kinds) (now numbers) (now places) (now keys)) ⌝ }
+    ensures { λ r. ⌜ (r .records ≡ length (run (commandOf byte) (operandBytes (commandOf byte) (now (code .entry)) at) marked)) × (r .«key_bytes» ≡ length (keysOf (run (commandOf byte) (operandBytes (commandOf byte) (now (code .entry)) at) marked))) × (r .width ≡ commandRow (commandOf byte) .width) ⌝ }
+    ensures { λ _. ⌜ Stored (run (commandOf byte) (operandBytes (commandOf byte) (now (code .entry)) at) marked) place (recordsOf (now (kinds .entry)) (now (numbers .entry)) (now (places .entry)) (now (keys .entry))) (recordsOf (now (kinds .exit)) (now (numbers .exit)) (now (places .exit)) (now (keys .exit))) ⌝ }
+{
+    if !marked {
+        let kind = kind_of(byte);
+        if 2 < kind {
+            write_one(kind, 0, kinds, numbers, places);
+            return Next {
+                records: 1,
+                key_bytes: 0,
+                width: 0,
+            };
+        }
+        if kind != 0 {
+            let number = slices::read_le64(code, at);
+            write_one(kind, number, kinds, numbers, places);
+            return Next {
+                records: 1,
+                key_bytes: 0,
+                width: 8,
+            };
+        }
+    }
+    let command = command_of(byte);
+    let taken = write_command(
+        command,
+        marked,
+        code,
+        at,
+        place,
+        kinds,
+        numbers,
+        places,
+        keys,
+    );
+    Next {
+        records: taken.records,
+        key_bytes: taken.key_bytes,
+        width: width_of(command),
+    }
+}
+
 // The records of all commands, of which `marks` says which are marked.
 pub fn write_records(
     code: &[u8],
@@ -199,9 +297,8 @@ pub fn write_records(
     let mut n = 0;
     let mut k = 0;
     while at < code.len() {
-        let command = command_of(code[at]);
-        let taken = write_command(
-            command,
+        let taken = write_next(
+            code[at],
             marks[count],
             code,
             at + 1,
@@ -214,6 +311,6 @@ pub fn write_records(
         n += taken.records;
         k += taken.key_bytes;
         count += 1;
-        at = at + 1 + width_of(command);
+        at = at + 1 + taken.width;
     }
 }

@@ -15,7 +15,9 @@ ghost use Rattle.semantics.specs.Records.{recordsOf};
 ghost use Rattle.writer.specs.Postcondition.{Postcondition};
 
 // Conditions of so few tokens are written with smaller arrays, which take less time to make.
-const FEW_TOKENS: usize = 64;
+const FEW_TOKENS: usize = 32;
+
+const SOME_TOKENS: usize = 256;
 
 // Whether there is room for so many records and key bytes in buffers of these lengths.
 fn has_room(
@@ -92,6 +94,21 @@ fn write_passed(
     if tokens <= FEW_TOKENS {
         let mut waiting = [0; FEW_TOKENS];
         let mut marks = [false; FEW_TOKENS];
+        return write_with(
+            code,
+            tokens,
+            oracles,
+            kinds,
+            numbers,
+            places,
+            keys,
+            &mut waiting,
+            &mut marks,
+        );
+    }
+    if tokens <= SOME_TOKENS {
+        let mut waiting = [0; SOME_TOKENS];
+        let mut marks = [false; SOME_TOKENS];
         return write_with(
             code,
             tokens,

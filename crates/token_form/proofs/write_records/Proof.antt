@@ -63,13 +63,13 @@ module _ (a : tie.At-loop Inv-loop μ-loop) where
         keys = omega (arith, bound, room .keys);
       }
 
--- in a turn whose command is read
-module _ (t : tie.After-command-of Inv-loop μ-loop) where
+-- in a turn that is begun
+module _ (t : tie.In-loop Inv-loop μ-loop) where
   abbrev a : tie.At-loop Inv-loop μ-loop
-  a = t .before .before .before
+  a = t .before
 
   abbrev inside : a .loop .at < length (code a)
-  inside = t .before .before .loop-test .taken
+  inside = t .loop-test .taken
 
   command-told : known (commandAt (code a) (a .loop .at)) ≡ true
   command-told = command-known (code a) (marks a) (old a) (now a) (a .loop .at) (a .loop .count) (a .loop .n) (a .loop .k) (a .loop .inv) inside
@@ -94,10 +94,9 @@ module _ (t : tie.After-command-of Inv-loop μ-loop) where
 
 loop-again : tie.Need-loop-again Inv-loop μ-loop
 loop-again c =
-    let t = c .before .before .before .before .before .before .before .before .before .before .before .before .before .before .before .before .before in
-    let told = t .command-of .ensures in
-    let wrote = c .before .before .before .before .before .before .before .before .before .before .before .write-command .ensures in
-    rw (c .width-of .ensures, told) (one-more (code (a t)) (marks (a t)) (old (a t)) (now (a t)) (a t .loop .at) (a t .loop .count) (a t .loop .n) (a t .loop .k) (a t .loop .inv) (inside t) _ _ _ (rw told at (wrote .0)) (rw told at (wrote .1)))
+    let t = c .before .before .before .before .before .before .before .before .before .before .before .before .before .before .before .before .before .before in
+    let wrote = c .before .before .before .before .before .before .before .before .before .before .before .write-next .ensures in
+    rw (wrote .0 .2) (one-more (code (a t)) (marks (a t)) (old (a t)) (now (a t)) (a t .loop .at) (a t .loop .count) (a t .loop .n) (a t .loop .k) (a t .loop .inv) (inside t) _ _ _ (wrote .0 .0, wrote .0 .1) (wrote .1))
 
 pub write-records-spec : {M : Type 1} → statement M
 write-records-spec =
@@ -107,12 +106,15 @@ write-records-spec =
     μ-loop
     (λ c. none-yet (c .before .before .before .before .before .before .args .code .now) (c .before .before .before .before .before .before .args .marks .now) _ (c .before .before .before .before .before .before .pre .0 .0))
     (λ c. search needs)
-    (λ c κs. search needs)
-    (λ c. marked (c .before))
-    (λ c. omega (arith, operands (c .before)))
+    (λ c. marked (c .before .before))
+    (λ c. omega (arith, operands (c .before .before)))
+    (λ c. omega (arith, reached (c .before .before .before)))
+    (λ c. omega (arith, reached (c .before .before .before)))
+    (λ c. omega (arith, reached (c .before .before .before)))
     (λ c. omega (arith, reached (c .before .before .before .before)))
     (λ c. omega (arith, reached (c .before .before .before .before)))
     (λ c. omega (arith, reached (c .before .before .before .before)))
+    (λ c. omega (arith, reached (c .before .before .before .before)))
     (λ c. omega (arith, reached (c .before .before .before .before .before)))
     (λ c. omega (arith, reached (c .before .before .before .before .before)))
     (λ c. omega (arith, reached (c .before .before .before .before .before)))
@@ -120,18 +122,13 @@ write-records-spec =
     (λ c. omega (arith, reached (c .before .before .before .before .before .before)))
     (λ c. omega (arith, reached (c .before .before .before .before .before .before)))
     (λ c. omega (arith, reached (c .before .before .before .before .before .before)))
-    (λ c. omega (arith, reached (c .before .before .before .before .before .before)))
-    (λ c. omega (arith, reached (c .before .before .before .before .before .before .before)))
-    (λ c. omega (arith, reached (c .before .before .before .before .before .before .before)))
-    (λ c. omega (arith, reached (c .before .before .before .before .before .before .before)))
-    (λ c κs. let t = c .before .before .before .before .before in rw (t .command-of .ensures) ((command-told t, operands t, omega (arith, key-bytes t)), room-here t))
-    (λ c. let t = c .before .before .before .before .before .before .before .before .before .before .before .before .before .before .before in omega (arith, tokens t, rw (t .command-of .ensures) at (c .before .before .before .before .before .before .before .before .before .write-command .ensures .0 .0), begin (a t) .good))
-    (λ c. let t = c .before .before .before .before .before .before .before .before .before .before .before .before .before .before .before .before in omega (arith, key-bytes t, rw (t .command-of .ensures) at (c .before .before .before .before .before .before .before .before .before .before .write-command .ensures .0 .1)))
-    (λ c. let t = c .before .before .before .before .before .before .before .before .before .before .before .before .before .before .before .before in omega (arith, marked t, begin (a t) .good))
-    (λ c. let t = c .before .before .before .before .before .before .before .before .before .before .before .before .before .before .before .before in omega (arith, operands t, begin (a t) .good))
-    (λ c κs. search needs)
-    (λ c. let t = c .before .before .before .before .before .before .before .before .before .before .before .before .before .before .before .before .before in omega (arith, operands t, rw (t .command-of .ensures) at (c .width-of .ensures), begin (a t) .good))
-    (λ c. omega (arith, operands (c .before .before .before .before .before .before .before .before .before .before .before .before .before .before .before .before .before)))
+    (λ c κs. let t = c .before .before .before .before .before .before in ((command-told t, operands t, omega (arith, key-bytes t)), room-here t))
+    (λ c. let t = c .before .before .before .before .before .before .before .before .before .before .before .before .before .before .before .before in omega (arith, tokens t, c .before .before .before .before .before .before .before .before .before .write-next .ensures .0 .0, begin (a t) .good))
+    (λ c. let t = c .before .before .before .before .before .before .before .before .before .before .before .before .before .before .before .before .before in omega (arith, key-bytes t, c .before .before .before .before .before .before .before .before .before .before .write-next .ensures .0 .1))
+    (λ c. let t = c .before .before .before .before .before .before .before .before .before .before .before .before .before .before .before .before .before in omega (arith, marked t, begin (a t) .good))
+    (λ c. let t = c .before .before .before .before .before .before .before .before .before .before .before .before .before .before .before .before .before in omega (arith, operands t, begin (a t) .good))
+    (λ c. let t = c .before .before .before .before .before .before .before .before .before .before .before .before .before .before .before .before .before .before in omega (arith, operands t, c .before .before .before .before .before .before .before .before .before .before .before .write-next .ensures .0 .2, begin (a t) .good))
+    (λ c. let t = c .before .before .before .before .before .before .before .before .before .before .before .before .before .before .before .before .before .before in omega (arith, operands t))
     loop-again
     (λ c. bound (c .before) .kinds)
     (λ c. bound (c .before) .numbers)

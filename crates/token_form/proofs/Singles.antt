@@ -1,0 +1,32 @@
+-- A command of one token that is not marked: its record.
+use Prim.Native.Nat.{ℕ, _≤_}
+use mathlib.Core.Bool.{Bool, false}
+use mathlib.Core.Path.{_≡_, refl}
+use mathlib.Core.List.{List, [], _∷_}
+use lib.Dec.{eqb}
+use lib.ListN.{length}
+use Rattle.semantics.specs.declared.Command.{Command}
+use Rattle.semantics.specs.Evaluate.{over}
+use Rattle.semantics.specs.Operations.{Token}
+use Rattle.semantics.specs.Records.{Records}
+use Rattle.token_table.specs.Runs.{ownTokens, run}
+use Rattle.token_form.specs.Storing.{Room, Stored, keysOf, placesFrom}
+
+abbrev pub token : ℕ → ℕ → Token
+token kind number = record { kind = kind; number = number; key = [] }
+
+module _ (c : Command) (n : List ℕ) (marked : Bool) (m : marked ≡ false) (kind number : ℕ) (is : ownTokens c n ≡ token kind number ∷ []) where
+  pub run-one : run c n marked ≡ token kind number ∷ []
+  run-one = rw (m, is)
+
+  pub one-asks : (r : Records) → Room (run c n marked) r → (1 ≤ length (r .kinds)) × (1 ≤ length (r .numbers)) × (1 ≤ length (r .places))
+  one-asks r room = (rw run-one at (room .kinds), rw run-one at (room .numbers), rw run-one at (room .places))
+
+  pub one-counts : (1 ≡ length (run c n marked)) × (0 ≡ length (keysOf (run c n marked)))
+  unfolding keysOf
+  one-counts = (rw run-one, rw run-one)
+
+  pub one-leaves : (p : ℕ) (old new : Records) → eqb kind 3 ≡ false → new .kinds ≡ over (kind ∷ []) (old .kinds) → new .numbers ≡ over (number ∷ []) (old .numbers)
+      → new .places ≡ over (0 ∷ []) (old .places) → new .keys ≡ old .keys → Stored (run c n marked) p old new
+  unfolding keysOf placesFrom
+  one-leaves p old new e x y z w = rw run-one (record { kinds = x; numbers = y; places = rw e z; keys = w })
