@@ -131,7 +131,7 @@ def memory(rows, refused, cases):
     out += ["The archive has %d bytes of code and %d of constants, and no data of its own: nothing is allocated or kept between calls." % (text, rodata), ""]
     out += ["## Each call at its worst", ""]
     out += paragraph("Stack is the high-water mark of a painted stack over the conditions and the token lists below, and over every case of crates/vectors, refused or not. Only Decode "
-                     "has functions that call themselves: its readers, at most once for each token and once more. The token lists of the last table take them as deep as that. The proofs "
+                     "has functions that call themselves: its readers, at most once for each four tokens and once more. The token lists of the last table take them as deep as that. The proofs "
                      "say nothing about the stack: who calls must have what stands here.")
     out += paragraph("Lent is what the caller provides for the largest condition. Amounts: %d slots a list are assumed, and a transaction with more asks for more. Decode takes as many "
                      "key bytes as the caller has; %d keys are those of the largest condition." % (SLOTS, oracles))
@@ -147,7 +147,7 @@ def memory(rows, refused, cases):
             tokens, stack = rows[s, size][:2]
             out.append("| %s | %d | %s |" % (s, tokens, " | ".join(map(str, stack))))
     out += ["", "## Stack of Decode on token lists that it refuses", ""]
-    out += paragraph("Each list is an operation of one token, repeated and without an operand, before Equal or, for an index step, before InpValue, Num 1, Equal, Verify, Equal. The "
+    out += paragraph("Each list is an operation, repeated and without an operand, before Equal or, for an index step, before InpValue, Num 1, Equal, Verify, Equal. The "
                      "answer is 11. The first token is of the kind, among all 36, that takes most.")
     out += ["| repeated | tokens | Decode | Decode, records |", "|---|---|---|---|"]
     out += ["| %s | %d | %d | %d |" % (s, n, *r[:2]) for (s, n), r in refused.items()]
@@ -160,7 +160,7 @@ WHY = {
     "Evaluate": "the Rust goes over a tree that was built and judged before; ours is given bytes that may be anything, so that each call has a Check in it. A condition with many tokens also has two "
                 "operand stacks of 1,024 to clear, which weighs most where it is not much longer than the conditions that get short ones.",
     "Write": "it has a Check in it, then a pass that marks left operands of index Mul and Div, then the pass that writes records of three fields; the Rust writes bytes.",
-    "Decode": "a refusal must not write, so that a form is gone over three times: by the readers, by the judge of the oracle rule, and when its code is written.",
+    "Decode": "a refusal must not write, so that a form is gone over four times: when the row before each place is noted, by the readers, by the judge of the oracle rule, and when its code is written.",
 }
 
 

@@ -1,13 +1,13 @@
 #!/usr/bin/env python3
 """shapes.py: prints the conditions that are measured, a line each: shape, tokens, code in hex. Left-deep chains of add, and, index steps and oracles, and the deepest
-nestings: Invert, And and index Add nested to the right, index Add nested to the left.
-shapes.py refused: prints token lists that Decode refuses with 11, a line each: shape, tokens, kinds in hex; every Num is 1. An operation of one token that finds no
-operand is what takes Decode's readers deepest: they call themselves once for each token."""
+nestings: Invert, And and index Add nested to the right, index Add nested to the left; and Add and index Mul nested to the right, where Decode's readers go deepest.
+shapes.py refused: prints token lists that Decode refuses with 11, a line each: shape, tokens, kinds in hex; every Num is 1. An operation of several tokens that finds no
+operand is what takes Decode's readers deepest: they call themselves once for each; the operands of an operation of one token are counted."""
 import os
 import sys
 
 sys.path.insert(0, os.path.join(os.path.dirname(os.path.abspath(__file__)), "..", "tests", "vectors"))
-from model import ADD, AND, EQUAL, INP_VALUE, INVERT, NUM, OR, SUB, VERIFY, XOR, code_of, form
+from model import ADD, ADD64, AND, DIV64, EQUAL, INP_VALUE, INVERT, MUL64, NIP, NUM, TO_LE64, TO_NUM, VERIFY, code_of, form
 
 ONE = (16, 1)
 KEY = bytes([7] * 32)
@@ -29,26 +29,29 @@ SHAPES = {
     "invert": lambda n: chain(ONE, lambda t, i: (30, t), n),
     "and right": lambda n: chain(ONE, lambda t, i: (27, ONE, t), n),
     "index right": lambda n: (18, chain((1, 0), lambda t, i: (3, (1, 0), t), n)),
+    "add right": lambda n: chain(ONE, lambda t, i: (22, ONE, t), n),
+    "mul right": lambda n: (18, chain((1, 0), lambda t, i: (5, (1, 0), t), n)),
     "index left": lambda n: (18, chain((1, 0), lambda t, i: (3, t, (1, 0)), n)),
 }
 
-# Operations of one token, and what stands after them: `Equal` takes a value off, an amount's four tokens an index.
+# Operations, and what stands after them: `Equal` takes a value off, an amount's four tokens an index.
 ON_VALUES = [EQUAL]
 ON_INDEXES = [INP_VALUE, NUM, EQUAL, VERIFY, EQUAL]
 REFUSED = {
-    "Invert alone": (INVERT, ON_VALUES),
-    "And alone": (AND, ON_VALUES),
-    "Or alone": (OR, ON_VALUES),
-    "Xor alone": (XOR, ON_VALUES),
-    "index Add alone": (ADD, ON_INDEXES),
-    "index Sub alone": (SUB, ON_INDEXES),
+    "Invert alone": ([INVERT], ON_VALUES),
+    "And alone": ([AND], ON_VALUES),
+    "Add alone": ([ADD64, NUM, EQUAL, VERIFY], ON_VALUES),
+    "Div alone": ([DIV64, NUM, EQUAL, VERIFY, NIP], ON_VALUES),
+    "index Add alone": ([ADD], ON_INDEXES),
+    "index Mul alone": ([TO_LE64, MUL64, NUM, EQUAL, VERIFY, TO_NUM], ON_INDEXES),
 }
 
 
 def refused(shape, n):
     """Kinds of n tokens: the operation as often as there is room, without an operand."""
-    kind, after = REFUSED[shape]
-    return bytes([kind] * (n - len(after)) + after)
+    own, after = REFUSED[shape]
+    kinds = own * ((n - len(after)) // len(own)) + after
+    return bytes([INVERT] * (n - len(kinds)) + kinds)
 
 
 def longest(shape, most):

@@ -1,10 +1,11 @@
-// Decode: the condition code of which the last token records are the token form. The readers find where it begins; then its oracle rule and length are
+// Decode: the condition code of which the last token records are the token form. The row before each place is noted; the readers find where the form begins; then its oracle rule and length are
 // judged, and it is written straight into the lent buffer.
 use crate::soundness::Scanned;
 use crate::soundness::scan;
 use emission::Judged;
 use emission::emit;
 use emission::judge;
+use productions::find_rows;
 use readers::Reading;
 use readers::read_condition;
 use semantics::Decoded;
@@ -31,13 +32,15 @@ fn decode_sound(
     ensures { λ r. ⌜ record { answer = r; buffer = now (code .exit) } ≡ decodedAs (now (code .entry))
         (decode (tokens (recordsOf (now (kinds .entry)) (now (numbers .entry)) (now (places .entry)) (now (keys .entry))))) ⌝ }
 {
-    let Reading::Read(start) = read_condition(kinds, numbers) else {
+    let mut rows = [0u8; MAX_TOKENS];
+    find_rows(kinds, numbers, &mut rows);
+    let Reading::Read(start) = read_condition(&rows, kinds.len()) else {
         return Decoded::Refused(Refusal::NoCondition);
     };
-    let Judged::Kept(bytes) = judge(kinds, numbers, start) else {
+    let Judged::Kept(bytes) = judge(kinds, &rows, start) else {
         return Decoded::Refused(Refusal::NoCondition);
     };
-    emit(kinds, numbers, places, keys, start, code, bytes);
+    emit(kinds, numbers, places, keys, &rows, start, code, bytes);
     Decoded::Code { bytes, start }
 }
 

@@ -146,6 +146,15 @@ oracleW-row : (k : ℕ) → k < 29 → rowAt k .command ≡ 33 → k ≡ 16
 unfolding all rows ownCode exprCode idxCode
 oracleW-row = command-row 33 16 refl
 
+-- the current index stands somewhere
+pub twin-some : (r : Records) (start kind : ℕ) → kind ≡ kindAt (before (tokenAt r) start) 0 → kind ≡ 4 → 1 ≤ start
+unfolding before
+twin-some r start kind e f = go start e
+  where
+    go : (n : ℕ) → kind ≡ kindAt (before (tokenAt r) n) 0 → 1 ≤ n
+    go zero q = absurd (omega arith)
+    go (suc n) q = omega arith
+
 -- the piece that the tokens before a place end with
 module _ (r : Records) (end : ℕ) where
   pub met-none : (k : ℕ) → k ≡ rowFound (production (before (tokenAt r) end)) → 29 ≤ k → 0 < end → Met r end (record { command = 0; first = end - 1 })
@@ -167,20 +176,12 @@ module _ (r : Records) (end : ℕ) where
     split : before (tokenAt r) end ≡ ending (productionOf (before (tokenAt r) end) k) ++ before (tokenAt r) start
     split = production-sound (before (tokenAt r) end) (recorded r end) k (before (tokenAt r) start) (at .is)
 
-    pub twin-some : (kind : ℕ) → kind ≡ kindAt (before (tokenAt r) start) 0 → kind ≡ 4 → 1 ≤ start
-    unfolding before
-    twin-some kind e f = go start e
-      where
-        go : (n : ℕ) → kind ≡ kindAt (before (tokenAt r) n) 0 → 1 ≤ n
-        go zero q = absurd (omega arith)
-        go (suc n) q = omega arith
-
     pub met-twin : k ≡ 1 → (kind : ℕ) → kind ≡ kindAt (before (tokenAt r) start) 0 → kind ≡ 4 → Met r end (record { command = 17; first = start - 1 })
     unfolding part
     met-twin one kind e f =
         let is : part (before (tokenAt r) end) ≡ record { bytes = 17 ∷ []; width = length (rowAt k .marks) + 1 } =
         ap (partOf (before (tokenAt r) end)) (at .is) ∙ rw (eq-eqb k 1 one, eq-eqb (kindAt (before (tokenAt r) start) 0) 4 (sym e ∙ f)) in
-        let some = twin-some kind e f in
+        let some = twin-some r start kind e f in
         let sum : start - 1 + (length (rowAt k .marks) + 1) ≡ end = omega (arith, at .width) in
         record {
           bytes = ap (λ (x : Part). x .bytes) is;

@@ -8,8 +8,9 @@ use lib.Dec.{eqb}
 use Rattle.slices.specs.Bytes.{littleEndian}
 use Rattle.semantics.specs.Operations.{Token}
 use Rattle.semantics.specs.FromTokens.{Found, found, nothing}
-use Rattle.semantics.specs.Records.{Records, keyOf, tokenAt}
+use Rattle.semantics.specs.Records.{Records, keyOf, recordsOf, tokenAt}
 use Rattle.productions.specs.Before.{before}
+use Rattle.productions.specs.Noted.{Rows}
 use Rattle.productions.specs.Ending.{kindAt, ownCode, production, productionOf, rowAt}
 use Rattle.emission.specs.declared.Judged.{Judged}
 use Rattle.emission.specs.declared.Piece.{Piece}
@@ -110,6 +111,11 @@ pub record Met (r : Records) (end : ℕ) (p : Piece) : Type 0 where
   pub falls : p .first < end
   pub oracle : p .command ≡ priceOracle1 → (p .first + 7 < end) × (getD (r .kinds) (p .first + 7) 0 ≡ 3)
   pub oracleW : p .command ≡ priceOracle1W → (p .first + 8 < end) × (getD (r .kinds) (p .first + 8) 0 ≡ 3)
+
+-- the same, where the rows before `end` are noted, whatever the records carry beside their kinds
+pub record Noticed (kinds rows : List ℕ) (end : ℕ) (p : Piece) : Type 0 where
+  pub falls : p .first < end
+  pub met : (numbers places keys : List ℕ) → Rows (recordsOf kinds numbers places keys) rows end → Met (recordsOf kinds numbers places keys) end p
 
 -- what writing a piece needs of the slices
 pub record Placed (numbers places keys : List ℕ) (p : Piece) : Type 0 where

@@ -3,8 +3,9 @@ use productions::INPUT;
 use productions::ROWS;
 use productions::command;
 use productions::kind_before;
-use productions::production;
+use productions::row_before;
 use productions::width;
+use semantics::MAX_TOKENS;
 ghost use mathlib.Core.Path.{_≡_};
 ghost use mathlib.Core.Bool.{_||_};
 ghost use mathlib.Core.List.{List, [], _∷_, _++_};
@@ -15,8 +16,9 @@ ghost use Rattle.slices.specs.Bytes.{littleEndian};
 ghost use Rattle.semantics.specs.Code.{maxTokens};
 ghost use Rattle.semantics.specs.Records.{recordsOf};
 ghost use Rattle.productions.specs.Before.{Numbered, Whole, tokensBefore};
+ghost use Rattle.productions.specs.Noted.{Fitting, Rows};
 ghost use Rattle.semantics.specs.Evaluate.{over};
-ghost use Rattle.emission.specs.Pieces.{Met, Placed, joined, judged, pieces, placedPiece, priceOracle1, put, sizeOf};
+ghost use Rattle.emission.specs.Pieces.{Noticed, Placed, joined, judged, pieces, placedPiece, priceOracle1, put, sizeOf};
 
 // The kind of the current index, and the commands that are told apart by number.
 const CURR_INP: u8 = 4;
@@ -60,12 +62,11 @@ pub enum Judged {
 }
 
 // The piece that the tokens before `end` end with; `Input` of the current index is `CurrInputIdx`.
-fn last_piece(kinds: &[u8], numbers: &[u64], end: usize) -> Piece
-    requires { ⌜ Numbered (now kinds) (now numbers) end ⌝ }
-    requires { ⌜ 0 < end ⌝ }
-    ensures { λ r. ⌜ ((places keys : List ℕ) → Met (recordsOf (now (kinds .entry)) (now (numbers .entry)) places keys) end r) ⌝ }
+fn last_piece(kinds: &[u8], rows: &[u8; MAX_TOKENS], end: usize) -> Piece
+    requires { ⌜ Fitting (now rows) end × (end ≤ length (now kinds)) × (0 < end) ⌝ }
+    ensures { λ r. ⌜ Noticed (now (kinds .entry)) (now (rows .entry)) end r ⌝ }
 {
-    let row = production(kinds, numbers, end);
+    let row = row_before(rows, end);
     if ROWS <= row {
         return Piece {
             command: 0,
@@ -120,19 +121,18 @@ fn among_later(later: bool, first: u8) -> bool
 }
 
 // The length of the code of the tokens from `start` on, if the first command is not PriceOracle1W, and PriceOracle1 is not among the later ones.
-pub fn judge(kinds: &[u8], numbers: &[u64], start: usize) -> Judged
-    requires { ⌜ Numbered (now kinds) (now numbers) (length (now kinds)) ⌝ }
-    requires { ⌜ length (now kinds) ≤ maxTokens ⌝ }
-    ensures { λ r. ⌜ ((places keys : List ℕ) → Whole (now (kinds .entry)) places keys →
-        r ≡ judged (pieces (length (now (kinds .entry)) - start)
-        (tokensBefore (now (kinds .entry)) (now (numbers .entry)) places keys (length (now (kinds .entry)))))) ⌝ }
+pub fn judge(kinds: &[u8], rows: &[u8; MAX_TOKENS], start: usize) -> Judged
+    requires { ⌜ Fitting (now rows) (length (now kinds)) ⌝ }
+    ensures { λ r. ⌜ ((numbers places keys : List ℕ) → Rows (recordsOf (now (kinds .entry)) numbers places keys) (now (rows .entry)) (length (now (kinds .entry))) →
+        Whole (now (kinds .entry)) places keys → r ≡ judged (pieces (length (now (kinds .entry)) - start)
+        (tokensBefore (now (kinds .entry)) numbers places keys (length (now (kinds .entry)))))) ⌝ }
 {
     let mut end = kinds.len();
     let mut bytes: usize = 0;
     let mut first: u8 = 0;
     let mut later = false;
     while start < end {
-        let p = last_piece(kinds, numbers, end);
+        let p = last_piece(kinds, rows, end);
         later = among_later(later, first);
         first = p.command;
         bytes += size(p.command);
@@ -221,6 +221,7 @@ pub fn emit(
     numbers: &[u64],
     places: &[u32],
     keys: &[u8],
+    rows: &[u8; MAX_TOKENS],
     start: usize,
     code: &mut [u8],
     bytes: usize,
@@ -229,6 +230,7 @@ pub fn emit(
     requires { ⌜ Whole (now kinds) (now places) (now keys) ⌝ }
     requires { ⌜ (bytes ≤ length (now code)) × (bytes ≡ length (joined (pieces (length (now kinds) - start)
         (tokensBefore (now kinds) (now numbers) (now places) (now keys) (length (now kinds)))))) ⌝ }
+    requires { ⌜ (length (now kinds) ≤ maxTokens) × Rows (recordsOf (now kinds) (now numbers) (now places) (now keys)) (now rows) (length (now kinds)) ⌝ }
     ensures { λ _. ⌜ now (code .exit) ≡ over (joined (pieces (length (now (kinds .entry)) - start)
         (tokensBefore (now (kinds .entry)) (now (numbers .entry)) (now (places .entry)) (now (keys .entry)) (length (now (kinds .entry))))))
         (now (code .entry)) ⌝ }
@@ -236,7 +238,7 @@ pub fn emit(
     let mut end = kinds.len();
     let mut at = bytes;
     while start < end {
-        let p = last_piece(kinds, numbers, end);
+        let p = last_piece(kinds, rows, end);
         put_piece(numbers, places, keys, p, code, at);
         at -= size(p.command);
         end = p.first;

@@ -4,3 +4,4 @@ pub mod Endings
 pub mod Shapes
 pub mod Table
 pub mod Places
+pub mod Noted

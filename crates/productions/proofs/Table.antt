@@ -62,6 +62,11 @@ run-at {A = A} l d a from n k e low high =
     ap (λ (i : ℕ). getD l i d) (sym at) ∙ sym (getD-drop from l (k - from) d) ∙ sym (getD-take n (drop from l) (k - from) d (omega arith))
     ∙ ap (λ (m : List A). getD m (k - from) d) e ∙ getD-replicate n (k - from) a d (omega arith)
 
+-- a run of rows with as many marks
+pub width-run : (w from n k : ℕ) → take n (drop from (map (λ (r : Row). length (r .marks)) rows)) ≡ replicate n w → from ≤ k → k < from + n → w ≡ length (rowAt k .marks)
+width-run w from n k run low high =
+    sym (sym (List·getD-map (λ (r : Row). length (r .marks)) rows k blank) ∙ run-at (map (λ (r : Row). length (r .marks)) rows) 0 w from n k run low high)
+
 -- what a row's production is, whatever the tokens carry
 module _ {A : Type 0} (f : Production → A) (ts : List Token) (a : A) (from n k : ℕ) (run : take n (drop from (map f (productions ts))) ≡ replicate n a)
     (low : from ≤ k) (high : k < from + n) where

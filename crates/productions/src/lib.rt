@@ -1,9 +1,13 @@
 // What the tokens before a place end with: a row of the table, told by the kinds of one or two tokens, and then compared mark by mark.
+use semantics::MAX_TOKENS;
 ghost use mathlib.Core.Path.{_≡_};
 ghost use mathlib.Core.List.{List, [], _∷_};
 ghost use Prim.Native.Nat.{ℕ, _-_, _≤_, _<_};
 ghost use lib.ListN.{length, getD};
+ghost use Rattle.semantics.specs.Code.{maxTokens};
+ghost use Rattle.semantics.specs.Records.{recordsOf};
 ghost use Rattle.productions.specs.Before.{Numbered, tokensBefore};
+ghost use Rattle.productions.specs.Noted.{Rows, rowIn};
 ghost use Rattle.productions.specs.Ending.{candidateOf, ends, entry, equalKind, fits, kindAt, numOne, production, rowAt, rowCount, rowFound, rows, rowsBefore};
 
 // Kinds of tokens.
@@ -33,6 +37,8 @@ pub const UNARIES: usize = 5;
 pub const BINARIES: usize = 7;
 
 const DIV: usize = 10;
+
+pub const BIT_OPERATIONS: usize = 12;
 
 pub const ORACLES: usize = 15;
 
@@ -88,7 +94,7 @@ fn entry(row: usize) -> [u8; 15]
     }
 }
 
-// A number of the table as a number of tokens.
+// A number of the table, or a row that is noted.
 fn u8_to_usize(x: u8) -> usize
     ensures { λ r. ⌜ r ≡ x ⌝ }
 {
@@ -104,13 +110,48 @@ pub fn command(row: usize) -> u8
     e[0]
 }
 
-// The number of a row's own tokens.
+// The number of a row's own tokens, by runs of rows: the readers hold nothing of a table while they call themselves.
 pub fn width(row: usize) -> usize
     requires { ⌜ row < rowCount ⌝ }
     ensures { λ r. ⌜ r ≡ length (rowAt row .marks) ⌝ }
 {
-    let e = entry(row);
-    u8_to_usize(e[1])
+    if row < 1 {
+        return 1;
+    }
+    if row < 3 {
+        return 4;
+    }
+    if row < 5 {
+        return 8;
+    }
+    if row < 6 {
+        return 1;
+    }
+    if row < 10 {
+        return 4;
+    }
+    if row < 12 {
+        return 5;
+    }
+    if row < 15 {
+        return 1;
+    }
+    if row < 16 {
+        return 10;
+    }
+    if row < 17 {
+        return 13;
+    }
+    if row < 21 {
+        return 1;
+    }
+    if row < 22 {
+        return 6;
+    }
+    if row < 23 {
+        return 7;
+    }
+    1
 }
 
 // The first row whose last token has this kind, or the number of rows.
@@ -271,4 +312,29 @@ pub fn production(kinds: &[u8], numbers: &[u64], end: usize) -> usize
         return row;
     }
     ROWS
+}
+
+// Notes the row that the tokens before each place end with, so that it is found once.
+pub fn find_rows(kinds: &[u8], numbers: &[u64], rows: &mut [u8])
+    requires { ⌜ Numbered (now kinds) (now numbers) (length (now kinds)) ⌝ }
+    requires { ⌜ length (now kinds) ≤ length (now rows) ⌝ }
+    ensures { λ _. ⌜ ((places keys : List ℕ) →
+        Rows (recordsOf (now (kinds .entry)) (now (numbers .entry)) places keys) (now (rows .exit)) (length (now (kinds .entry)))) ⌝ }
+{
+    let mut i = 0;
+    while i < kinds.len() {
+        rows[i] = production(kinds, numbers, i + 1) as u8;
+        i += 1;
+    }
+}
+
+// The row that is noted for the tokens before `end`, or the number of rows.
+pub fn row_before(rows: &[u8; MAX_TOKENS], end: usize) -> usize
+    requires { ⌜ end ≤ maxTokens ⌝ }
+    ensures { λ r. ⌜ r ≡ rowIn (now (rows .entry)) end ⌝ }
+{
+    if end == 0 {
+        return ROWS;
+    }
+    u8_to_usize(rows[end - 1])
 }

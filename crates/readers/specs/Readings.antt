@@ -1,9 +1,16 @@
 -- What the readers answer, by what the definitions' readers find.
-use Prim.Native.Nat.{ℕ, _-_}
+use Prim.Native.Nat.{ℕ, _≤_}
+use mathlib.Core.Path.{_≡_}
 use mathlib.Core.Bool.{cond}
-use lib.Dec.{eqb, ltb}
+use mathlib.Core.List.{List}
+use lib.Dec.{ltb}
 use lib.ListN.{length}
+use Rattle.semantics.specs.Code.{maxTokens}
+use Rattle.semantics.specs.Operations.{Token}
+use Rattle.semantics.specs.Records.{Records, tokenAt}
 use Rattle.semantics.specs.FromTokens.{Found, found, nothing}
+use Rattle.productions.specs.Before.{before}
+use Rattle.productions.specs.Noted.{Rows}
 use Rattle.readers.specs.declared.Reading.{Reading}
 
 -- how many tokens stand before what was read
@@ -11,13 +18,11 @@ abbrev pub readingOf : {A : Type 0} → Found A → Reading
 readingOf (found a r) = Reading.Read (length r)
 readingOf nothing = Reading.Nothing
 
--- the first row of index mul and div, and the kind of what stands between their operands
-abbrev pub indexMulRow : ℕ
-indexMulRow = 21
+-- a reading as a number: the place, or more than any
+unfoldable pub told : ℕ → Reading
+told n = cond (ltb maxTokens n) Reading.Nothing (Reading.Read n)
 
-abbrev pub scriptNumToLe64Kind : ℕ
-scriptNumToLe64Kind = 7
-
--- where the left operand of an index operation ends, whose right one begins at `middle`, by the kind before it
-unfoldable pub leftEnd : ℕ → ℕ → ℕ → ℕ
-leftEnd row middle kind = cond (ltb row indexMulRow) middle (cond (eqb kind scriptNumToLe64Kind) (middle - 1) 0)
+-- the number n tells what is read of the tokens before `last`
+pub record Answers (rows : List ℕ) (last n : ℕ) (read : List Token → Reading) : Type 0 where
+  pub within : n ≤ maxTokens → n ≤ last
+  pub right : (r : Records) → Rows r rows last → told n ≡ read (before (tokenAt r) last)

@@ -1,6 +1,9 @@
-// `from_tokens` of the source: the readers call themselves on the tokens before what they have matched.
+// `from_tokens` of the source: the readers call themselves on the tokens before what they have matched. The readers go by
+// the rows that are noted for the tokens before each place. What has several tokens of its own calls for its right operand; an operation of one token has its operands counted.
+// So the readers go at most a quarter as deep as there are tokens, whatever the tokens are.
 use productions::BETWEEN;
 use productions::BINARIES;
+use productions::BIT_OPERATIONS;
 use productions::COMPARISONS;
 use productions::INDEX_MUL;
 use productions::INDEX_OPERATIONS;
@@ -8,19 +11,16 @@ use productions::INDEXES;
 use productions::LOOKUPS;
 use productions::ORACLES;
 use productions::ROWS;
-use productions::SCRIPT_NUM_TO_LE64;
 use productions::UNARIES;
-use productions::kind_before;
-use productions::production;
+use productions::row_before;
 use productions::width;
+use semantics::MAX_TOKENS;
 ghost use mathlib.Core.Path.{_≡_};
-ghost use mathlib.Core.List.{List};
-ghost use Prim.Native.Nat.{ℕ, _≤_};
-ghost use lib.ListN.{length};
 ghost use Rattle.semantics.specs.FromTokens.{exprFromTokens, fromTokens, idxFromTokens};
-ghost use Rattle.productions.specs.Before.{Numbered, tokensBefore};
-ghost use Rattle.productions.specs.Ending.{kindAt};
-ghost use Rattle.readers.specs.Readings.{leftEnd, readingOf};
+ghost use Rattle.semantics.specs.Records.{Records, tokenAt};
+ghost use Rattle.productions.specs.Before.{before};
+ghost use Rattle.productions.specs.Noted.{Fitting, Rows};
+ghost use Rattle.readers.specs.Readings.{Answers, readingOf, told};
 
 // Where what was read begins.
 pub enum Reading {
@@ -28,90 +28,112 @@ pub enum Reading {
     Nothing,
 }
 
-// Where the left operand of an index operation ends, whose right one begins at `middle`. ScriptNumToLe64 stands between the operands of mul and div; where it
-// is missing, the answer is 0, before which nothing can be read.
-fn left_end(kinds: &[u8], row: usize, middle: usize) -> usize
-    requires { ⌜ middle ≤ length (now kinds) ⌝ }
-    ensures { λ r. ⌜ ((numbers places keys : List ℕ) →
-        r ≡ leftEnd row middle (kindAt (tokensBefore (now (kinds .entry)) numbers places keys middle) 0)) ⌝ }
+// The readers answer a number, which stays in a register: a place, or more than any.
+const NOTHING: usize = MAX_TOKENS + 1;
+
+fn told(n: usize) -> Reading
+    ensures { λ r. ⌜ r ≡ told n ⌝ }
 {
-    if row < INDEX_MUL {
-        return middle;
+    if MAX_TOKENS < n {
+        return Reading::Nothing;
     }
-    if kind_before(kinds, middle, 0) != SCRIPT_NUM_TO_LE64 {
-        return 0;
-    }
-    middle - 1
+    Reading::Read(n)
 }
 
-// The index expression that the tokens before `end` end with.
-fn read_index(kinds: &[u8], numbers: &[u64], end: usize) -> Reading
-    requires { ⌜ Numbered (now kinds) (now numbers) end ⌝ }
-    ensures { λ r. ⌜ ((places keys : List ℕ) →
-        r ≡ readingOf (idxFromTokens (tokensBefore (now (kinds .entry)) (now (numbers .entry)) places keys end))) ⌝ }
+// The index expression that the tokens before `last` end with: `count` are still to be read, each before the one behind it.
+fn read_index(rows: &[u8; MAX_TOKENS], last: usize) -> usize
+    requires { ⌜ Fitting (now rows) last ⌝ }
+    ensures { λ n. ⌜ Answers (now (rows .entry)) last n (λ ts. readingOf (idxFromTokens ts)) ⌝ }
 {
-    let row = production(kinds, numbers, end);
-    if row < INDEXES {
-        return Reading::Nothing;
+    let mut end = last;
+    let mut count: usize = 1;
+    while 0 < count {
+        let row = row_before(rows, end);
+        if row < INDEXES {
+            return NOTHING;
+        }
+        if BETWEEN <= row {
+            return NOTHING;
+        }
+        end -= width(row);
+        if row < INDEX_OPERATIONS {
+            count -= 1;
+            continue;
+        }
+        if row < INDEX_MUL {
+            count += 1;
+            continue;
+        }
+        let Reading::Read(middle) = told(read_index(rows, end)) else {
+            return NOTHING;
+        };
+        if row_before(rows, middle) != BETWEEN {
+            return NOTHING;
+        }
+        end = middle - 1;
     }
-    if BETWEEN <= row {
-        return Reading::Nothing;
-    }
-    let start = end - width(row);
-    if row < INDEX_OPERATIONS {
-        return Reading::Read(start);
-    }
-    let Reading::Read(middle) = read_index(kinds, numbers, start) else {
-        return Reading::Nothing;
-    };
-    read_index(kinds, numbers, left_end(kinds, row, middle))
+    end
 }
 
-// The value expression that the tokens before `end` end with.
-fn read_value(kinds: &[u8], numbers: &[u64], end: usize) -> Reading
-    requires { ⌜ Numbered (now kinds) (now numbers) end ⌝ }
-    ensures { λ r. ⌜ ((places keys : List ℕ) →
-        r ≡ readingOf (exprFromTokens (tokensBefore (now (kinds .entry)) (now (numbers .entry)) places keys end))) ⌝ }
+// The value expression that the tokens before `last` end with: `count` are still to be read, each before the one behind it.
+fn read_value(rows: &[u8; MAX_TOKENS], last: usize) -> usize
+    requires { ⌜ Fitting (now rows) last ⌝ }
+    ensures { λ n. ⌜ Answers (now (rows .entry)) last n (λ ts. readingOf (exprFromTokens ts)) ⌝ }
 {
-    let row = production(kinds, numbers, end);
-    if INDEXES <= row {
-        return Reading::Nothing;
+    let mut end = last;
+    let mut count: usize = 1;
+    while 0 < count {
+        let row = row_before(rows, end);
+        if INDEXES <= row {
+            return NOTHING;
+        }
+        end -= width(row);
+        if row < LOOKUPS {
+            count -= 1;
+            continue;
+        }
+        if row < UNARIES {
+            let Reading::Read(start) = told(read_index(rows, end)) else {
+                return NOTHING;
+            };
+            end = start;
+            count -= 1;
+            continue;
+        }
+        if row < BINARIES {
+            continue;
+        }
+        if row < BIT_OPERATIONS {
+            let Reading::Read(middle) = told(read_value(rows, end)) else {
+                return NOTHING;
+            };
+            end = middle;
+            continue;
+        }
+        if row < ORACLES {
+            count += 1;
+            continue;
+        }
+        count -= 1;
     }
-    let start = end - width(row);
-    if row < LOOKUPS {
-        return Reading::Read(start);
-    }
-    if row < UNARIES {
-        return read_index(kinds, numbers, start);
-    }
-    if row < BINARIES {
-        return read_value(kinds, numbers, start);
-    }
-    if ORACLES <= row {
-        return Reading::Read(start);
-    }
-    let Reading::Read(middle) = read_value(kinds, numbers, start) else {
-        return Reading::Nothing;
-    };
-    read_value(kinds, numbers, middle)
+    end
 }
 
-// The condition that the tokens end with.
-pub fn read_condition(kinds: &[u8], numbers: &[u64]) -> Reading
-    requires { ⌜ Numbered (now kinds) (now numbers) (length (now kinds)) ⌝ }
-    ensures { λ r. ⌜ ((places keys : List ℕ) →
-        r ≡ readingOf (fromTokens (tokensBefore (now (kinds .entry)) (now (numbers .entry)) places keys (length (now (kinds .entry)))))) ⌝ }
+// The condition that so many tokens end with.
+pub fn read_condition(rows: &[u8; MAX_TOKENS], size: usize) -> Reading
+    requires { ⌜ Fitting (now rows) size ⌝ }
+    ensures { λ x. ⌜ ((r : Records) → Rows r (now (rows .entry)) size → x ≡ readingOf (fromTokens (before (tokenAt r) size))) ⌝ }
 {
-    let row = production(kinds, numbers, kinds.len());
+    let row = row_before(rows, size);
     if row < COMPARISONS {
         return Reading::Nothing;
     }
     if ROWS <= row {
         return Reading::Nothing;
     }
-    let start = kinds.len() - width(row);
-    let Reading::Read(right) = read_value(kinds, numbers, start) else {
+    let start = size - width(row);
+    let Reading::Read(right) = told(read_value(rows, start)) else {
         return Reading::Nothing;
     };
-    read_value(kinds, numbers, right)
+    told(read_value(rows, right))
 }

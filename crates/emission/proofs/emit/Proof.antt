@@ -5,6 +5,7 @@ use mathlib.Core.Path.{_≡_, refl, subst⁻¹, _∙_}
 use native.Mathlib.Omega.{arith}
 use lib.ListN.{length}
 use Rattle.semantics.specs.Records.{Records, recordsOf}
+use Rattle.productions.proofs.Noted.{fitting-fewer, rows-fewer, rows-fit}
 use Rattle.emission.specs.Pieces.{Met, sizeOf}
 use Rattle.emission.proofs.Mets.{met-placed}
 use Rattle.emission.proofs.Emits.{Emitting, emitted, emitting-next, emitting-start, room}
@@ -12,11 +13,11 @@ use Rattle.emission.proofs.emit.Statement.{statement}
 use Rattle.emission.proofs.emit.Tie as tie
 
 abbrev Inv-loop : tie.InvT-loop
-Inv-loop kinds numbers places keys start code₀ bytes end₀ at₀ code end at =
+Inv-loop kinds numbers places keys rows start code₀ bytes end₀ at₀ code end at =
     (end ≤ length kinds) × (at ≤ length code₀) × (length code ≡ length code₀) × Emitting (recordsOf kinds numbers places keys) start code₀ end at code
 
 abbrev μ-loop : tie.MeasureT-loop
-μ-loop kinds numbers places keys start code₀ bytes end₀ at₀ code end at = end
+μ-loop kinds numbers places keys rows start code₀ bytes end₀ at₀ code end at = end
 
 abbrev start₁ : tie.At-loop Inv-loop μ-loop → tie.Start Inv-loop μ-loop
 start₁ a = a .before .before .before .before .before .before
@@ -27,17 +28,20 @@ records s = recordsOf (s .args .kinds .now) (s .args .numbers .now) (s .args .pl
 loop-holds : tie.Need-loop-holds Inv-loop μ-loop
 loop-holds c =
     let s = c .before .before .before .before .before in
-    (omega arith, s .pre .1 .1 .0, refl, emitting-start (records s) (s .args .start) (s .args .code .now) (s .args .bytes) (s .pre .1 .1 .1))
+    (omega arith, s .pre .1 .1 .0 .0, refl, emitting-start (records s) (s .args .start) (s .args .code .now) (s .args .bytes) (s .pre .1 .1 .0 .1))
 
 last-piece-requires : tie.Need-last-piece-requires Inv-loop μ-loop
 last-piece-requires c κs =
     let a = c .before in
-    let p = start₁ a .pre .0 in
-    (record { known = p .known; paired = p .paired; within = a .loop .inv .0 }, omega arith)
+    let s = start₁ a in
+    (fitting-fewer _ _ _ (rows-fit (records s) _ _ (s .pre .1 .1 .1 .0) (s .pre .1 .1 .1 .1)) (a .loop .inv .0), a .loop .inv .0, omega (arith, c .loop-test .taken))
 
 -- the piece that is met is a piece of these records
 met-is : (c : tie.After-last-piece Inv-loop μ-loop) → let a = c .before .before in Met (records (start₁ a)) (a .loop .end) (c .last-piece .result)
-met-is c = let s = start₁ (c .before .before) in c .last-piece .ensures (s .args .places .now) (s .args .keys .now)
+met-is c =
+    let a = c .before .before in
+    let s = start₁ a in
+    c .last-piece .ensures .met (s .args .numbers .now) (s .args .places .now) (s .args .keys .now) (rows-fewer _ _ _ _ (s .pre .1 .1 .1 .1) (a .loop .inv .0))
 
 enough : (c : tie.After-last-piece Inv-loop μ-loop) → let a = c .before .before in sizeOf (c .last-piece .result .command) ≤ a .loop .at
 enough c =

@@ -2,75 +2,77 @@
 use borrow.Author.Needs.{needs}
 use Prim.Native.Nat.{ℕ, _+_, _*_, _≤_}
 use mathlib.Core.Path.{subst⁻¹}
-use mathlib.Core.List.{List, []}
+use mathlib.Core.List.{List}
 use native.Mathlib.Omega.{arith}
 use lib.ListN.{length}
 use Rattle.semantics.specs.Records.{Records, recordsOf}
 use Rattle.productions.specs.Before.{Whole}
+use Rattle.productions.specs.Noted.{Rows}
+use Rattle.productions.proofs.Noted.{fitting-fewer, rows-fewer}
 use Rattle.emission.proofs.Mets.{size-most}
 use Rattle.emission.proofs.Emits.{Judging, judged-first, judged-kept, judged-later, judging-next, judging-start}
 use Rattle.emission.proofs.judge.Statement.{statement}
 use Rattle.emission.proofs.judge.Tie as tie
 
 abbrev Inv-loop : tie.InvT-loop
-Inv-loop kinds numbers start end₀ bytes₀ first₀ later₀ end bytes first later =
+Inv-loop kinds rows start end₀ bytes₀ first₀ later₀ end bytes first later =
     (end ≤ length kinds) × (bytes + 41 * end ≤ 41 * length kinds)
-    × ((places keys : List ℕ) → Whole kinds places keys → Judging (recordsOf kinds numbers places keys) start end bytes first later)
+    × ((numbers places keys : List ℕ) → Rows (recordsOf kinds numbers places keys) rows (length kinds) → Whole kinds places keys
+    → Judging (recordsOf kinds numbers places keys) start end bytes first later)
 
 abbrev μ-loop : tie.MeasureT-loop
-μ-loop kinds numbers start end₀ bytes₀ first₀ later₀ end bytes first later = end
+μ-loop kinds rows start end₀ bytes₀ first₀ later₀ end bytes first later = end
 
 abbrev start₁ : tie.At-loop Inv-loop μ-loop → tie.Start Inv-loop μ-loop
-start₁ a = a .before .before .before
+start₁ a = a .before .before
 
-abbrev records : tie.At-loop Inv-loop μ-loop → List ℕ → List ℕ → Records
-records a places keys = recordsOf (start₁ a .args .kinds .now) (start₁ a .args .numbers .now) places keys
+abbrev records : tie.At-loop Inv-loop μ-loop → List ℕ → List ℕ → List ℕ → Records
+records a numbers places keys = recordsOf (start₁ a .args .kinds .now) numbers places keys
 
 loop-holds : tie.Need-loop-holds Inv-loop μ-loop
 loop-holds c =
-    let s = c .before .before in
-    (omega arith, omega arith, λ places keys whole. judging-start (recordsOf (s .args .kinds .now) (s .args .numbers .now) places keys) (s .args .start))
+    let s = c .before in
+    (omega arith, omega arith, λ numbers places keys noted whole. judging-start (recordsOf (s .args .kinds .now) numbers places keys) (s .args .start))
 
 last-piece-requires : tie.Need-last-piece-requires Inv-loop μ-loop
 last-piece-requires c κs =
     let a = c .before in
-    let p = start₁ a .pre .0 in
-    (record { known = p .known; paired = p .paired; within = a .loop .inv .0 }, omega arith)
+    (fitting-fewer _ _ _ (start₁ a .pre) (a .loop .inv .0), a .loop .inv .0, omega (arith, c .loop-test .taken))
 
 loop-again : tie.Need-loop-again Inv-loop μ-loop
 loop-again c =
     let a = c .before .before .before .before in
     let m = c .before .before .last-piece in
-    let low = m .ensures [] [] .falls in
+    let low = m .ensures .falls in
     let few = size-most (m .result .command) in
     let grown : a .loop .bytes + c .size .result + 41 * m .result .first ≤ 41 * length (start₁ a .args .kinds .now) = omega (arith, c .size .ensures) in (
       omega arith,
       grown,
-      λ places keys whole. subst⁻¹ (λ (n : ℕ). Judging (records a places keys) (start₁ a .args .start) (m .result .first) (a .loop .bytes + n) (m .result .command) (c .before .among-later .result)) (c .size .ensures)
-          (judging-next (records a places keys) (start₁ a .args .start) (a .loop .end) (a .loop .bytes) (a .loop .first) (a .loop .later) (a .loop .inv .2 places keys whole) (a .loop .inv .0) whole
-          (c .before .before .before .loop-test .taken) (m .result) (m .ensures places keys) (c .before .among-later .result) (c .before .among-later .ensures)),
+      λ numbers places keys noted whole. subst⁻¹ (λ (n : ℕ). Judging (records a numbers places keys) (start₁ a .args .start) (m .result .first) (a .loop .bytes + n) (m .result .command) (c .before .among-later .result)) (c .size .ensures)
+          (judging-next (records a numbers places keys) (start₁ a .args .start) (a .loop .end) (a .loop .bytes) (a .loop .first) (a .loop .later) (a .loop .inv .2 numbers places keys noted whole) (a .loop .inv .0) whole
+          (c .before .before .before .loop-test .taken) (m .result) (m .ensures .met numbers places keys (rows-fewer _ _ _ _ noted (a .loop .inv .0))) (c .before .among-later .result) (c .before .among-later .ensures)),
     )
 
 add-bytes : tie.Need-add-bytes Inv-loop μ-loop
 add-bytes c =
     let a = c .before .before .before .before in
     let few = size-most (c .before .before .last-piece .result .command) in
-    omega (arith, c .size .ensures, start₁ a .pre .1, a .loop .inv)
+    omega (arith, c .size .ensures, start₁ a .pre .few, a .loop .inv)
 
 returns : tie.Need-returns Inv-loop μ-loop
-returns c places keys whole =
+returns c numbers places keys noted whole =
     let a = c .before .before in
-    judged-later (records a places keys) (start₁ a .args .start) (a .loop .end) (a .loop .bytes) (a .loop .first) (a .loop .later) (a .loop .inv .2 places keys whole) (c .before .loop-test .left) (c .if1 .taken)
+    judged-later (records a numbers places keys) (start₁ a .args .start) (a .loop .end) (a .loop .bytes) (a .loop .first) (a .loop .later) (a .loop .inv .2 numbers places keys noted whole) (c .before .loop-test .left) (c .if1 .taken)
 
 returns-2 : tie.Need-returns-2 Inv-loop μ-loop
-returns-2 c places keys whole =
+returns-2 c numbers places keys noted whole =
     let a = c .before .before .before in
-    judged-first (records a places keys) (start₁ a .args .start) (a .loop .end) (a .loop .bytes) (a .loop .first) (a .loop .later) (a .loop .inv .2 places keys whole) (c .before .before .loop-test .left) (c .if2 .taken)
+    judged-first (records a numbers places keys) (start₁ a .args .start) (a .loop .end) (a .loop .bytes) (a .loop .first) (a .loop .later) (a .loop .inv .2 numbers places keys noted whole) (c .before .before .loop-test .left) (c .if2 .taken)
 
 returns-3 : tie.Need-returns-3 Inv-loop μ-loop
-returns-3 c places keys whole =
+returns-3 c numbers places keys noted whole =
     let a = c .before .before .before in
-    judged-kept (records a places keys) (start₁ a .args .start) (a .loop .end) (a .loop .bytes) (a .loop .first) (a .loop .later) (a .loop .inv .2 places keys whole) (c .before .before .loop-test .left) (c .before .if1 .left) (c .if2 .left)
+    judged-kept (records a numbers places keys) (start₁ a .args .start) (a .loop .end) (a .loop .bytes) (a .loop .first) (a .loop .later) (a .loop .inv .2 numbers places keys noted whole) (c .before .before .loop-test .left) (c .before .if1 .left) (c .if2 .left)
 
 pub judge-spec : {M : Type 1} → statement M
 judge-spec =
@@ -83,7 +85,7 @@ judge-spec =
     (λ c κs. search needs)
     (λ c κs. search needs)
     add-bytes
-    (λ c. c .before .before .last-piece .ensures [] [] .falls)
+    (λ c. c .before .before .last-piece .ensures .falls)
     loop-again
     returns
     returns-2

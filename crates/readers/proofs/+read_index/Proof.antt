@@ -1,116 +1,205 @@
--- The reader's steps by rows, with a falling end.
-use Prim.Native.Nat.{ℕ, _-_, _<_, _≤_}
-use mathlib.Core.List.{List, []}
+-- The reader's turns by rows: the loop is `Loop` over `indexes`, and each call falls.
+use Prim.Native.Nat.{ℕ, _+_, _-_, _<_, _≤_}
+use mathlib.Core.Path.{_≡_, refl, sym, _∙_}
+use mathlib.Core.List.{List}
 use native.Mathlib.Omega.{arith}
 use borrow.Author.Needs.{needs}
 use borrow.Fn.Kinds.{In}
 use borrow.Fn.PlainCycle.{Measures, is, falls, and}
-use Rattle.semantics.specs.Records.{Records, recordsOf, tokenAt}
-use Rattle.productions.specs.Before.{Numbered}
-use Rattle.productions.proofs.Places.{At, fewer, row-found}
-use Rattle.readers.proofs.Onward.{index-before, index-beyond, index-middle, index-terminal, left-low, operation-left, operation-none}
+use Rattle.semantics.specs.Code.{maxTokens}
+use Rattle.semantics.specs.Operations.{Token}
+use Rattle.semantics.specs.Records.{Records, tokenAt}
+use Rattle.semantics.specs.FromTokens.{idxFromTokens}
+use Rattle.productions.specs.Before.{before}
+use Rattle.productions.specs.Ending.{production, rowFound}
+use Rattle.productions.proofs.Places.{At}
+use Rattle.readers.specs.declared.Reading.{Reading}
+use Rattle.productions.specs.Noted.{Fitting, Rows}
+use Rattle.readers.specs.Readings.{Answers, readingOf}
+use Rattle.readers.proofs.Steps.{reading-on}
+use Rattle.readers.proofs.Onward.{converted-left, converted-none, index-before, index-beyond, index-plain, index-terminal, indexes, unconverted}
+use Rattle.productions.proofs.Noted.{fitting-fewer, noted-at, own-tokens, rows-fewer}
+use Rattle.readers.proofs.Turns.{Loop, between-at, between-there, loop-done, loop-nothing, loop-start, loop-turn, operand-low}
 use Rattle.readers.proofs.read_index.Reads as read-index
 use Rattle.readers.proofs.read_index.Kinds as read-index-kinds
 use Rattle.readers.proofs.+read_index.Lts-read_index as lts
-use Rattle.productions.proofs.production.Reads as production-reads
 use Rattle.productions.proofs.width.Reads as width-reads
-use Rattle.readers.proofs.left_end.Reads as left-end-reads
+use Rattle.productions.proofs.row_before.Reads as row-before-reads
+use Rattle.readers.proofs.told.Reads as told-reads
 use Rattle.readers.proofs.+read_index.{statement}
 use Rattle.readers.proofs.+read_index.Tie.{close}
 
-abbrev μ : Measures 2 read-index-kinds.ps ℕ
-μ κs a = a .1 .1 .0
+abbrev μ : Measures 1 read-index-kinds.ps ℕ
+μ κs a = a .1 .0
 
-abbrev pre : ℕ → In 2 read-index-kinds.ps
-pre t = and 2 read-index-kinds.ps (is 2 read-index-kinds.ps μ t) read-index.Pre
+abbrev pre : ℕ → In 1 read-index-kinds.ps
+pre t = and 1 read-index-kinds.ps (is 1 read-index-kinds.ps μ t) read-index.Pre
 
-abbrev below : ℕ → In 2 read-index-kinds.ps
-below t = and 2 read-index-kinds.ps (falls 2 read-index-kinds.ps _<_ μ t) read-index.Pre
+abbrev below : ℕ → In 1 read-index-kinds.ps
+below t = and 1 read-index-kinds.ps (falls 1 read-index-kinds.ps _<_ μ t) read-index.Pre
 
--- what the callees ask and tell
 abbrev called : ℕ → lts.Claims
-called t = (production-reads.Asked, production-reads.Learnt, width-reads.Asked, width-reads.Learnt, below t, read-index.Post, left-end-reads.Asked, left-end-reads.Learnt)
+called t = (row-before-reads.Asked, row-before-reads.Learnt, width-reads.Asked, width-reads.Learnt, below t, read-index.Post, told-reads.Asked, told-reads.Learnt)
 
-abbrev Start : ℕ → Type 0
-Start t = lts.Start (called t) (pre t) read-index.Post
+abbrev Inv : lts.InvT-loop
+Inv rows last end₀ count₀ end count = Loop indexes rows last end count
 
-abbrev records : (t : ℕ) → Start t → List ℕ → List ℕ → Records
-records t s places keys = recordsOf (s .args .kinds .now) (s .args .numbers .now) places keys
+abbrev μ-loop : lts.MeasureT-loop
+μ-loop rows last end₀ count₀ end count = end
 
-numbered : (t : ℕ) (s : Start t) (n : ℕ) → n ≤ s .args .end → Numbered (s .args .kinds .now) (s .args .numbers .now) n
-numbered t s n h = fewer (s .args .kinds .now) (s .args .numbers .now) (s .args .end) n (s .pre .1) h
+abbrev read : List Token → Reading
+read ts = readingOf (idxFromTokens ts)
 
--- a row is found, and its width is known
-abbrev Wide : ℕ → Type 0
-Wide t = lts.After-width (called t) (pre t) read-index.Post
+one : (ts : List Token) → indexes 1 ts ≡ read ts
+one ts = sym (reading-on (idxFromTokens ts))
 
-abbrev start : (t : ℕ) → Wide t → Start t
-start t c = c .before .before .before .before .before .before
+-- in a turn
+module _ (t : ℕ) (a : lts.At-loop (called t) (pre t) read-index.Post Inv μ-loop) where
+  abbrev rows : List ℕ
+  rows = a .before .args .rows .now
 
-found : (t : ℕ) (c : Wide t) (places keys : List ℕ)
-    → (c .width .result ≤ start t c .args .end)
-    × At (tokenAt (records t (start t c) places keys)) (start t c .args .end) (c .before .before .before .production .result) (start t c .args .end - c .width .result)
-found t c places keys =
-    row-found (tokenAt (records t (start t c) places keys)) _ _ _ (c .before .before .before .production .ensures places keys) (omega (arith, c .before .if2 .left)) (c .width .ensures)
+  abbrev last : ℕ
+  last = a .before .args .last
+
+  abbrev fits : Fitting rows last
+  fits = a .before .pre .1
+
+  nothing-read : ((r : Records) → Rows r rows last → Reading.Nothing ≡ indexes (a .loop .count) (before (tokenAt r) (a .loop .end))) → Answers rows last (maxTokens + 1) read
+  nothing-read e = loop-nothing indexes rows last read one (fits .few) (a .loop .end) (a .loop .count) (a .loop .inv) e
+
+  next : (end count : ℕ) → end ≤ a .loop .end → count + end ≤ a .loop .count + a .loop .end
+      → ((r : Records) → Rows r rows last → indexes (a .loop .count) (before (tokenAt r) (a .loop .end)) ≡ indexes count (before (tokenAt r) end)) → Loop indexes rows last end count
+  next end count h room e = loop-turn indexes rows last (a .loop .end) (a .loop .count) end count (a .loop .inv) h room e
+
+-- whose row is told
+module _ (t : ℕ) (c : lts.After-row-before (called t) (pre t) read-index.Post Inv μ-loop) where
+  abbrev turn : lts.At-loop (called t) (pre t) read-index.Post Inv μ-loop
+  turn = c .before .before
+
+  row-is : (r : Records) → Rows r (rows t turn) (last t turn) → c .row-before .result ≡ rowFound (production (before (tokenAt r) (turn .loop .end)))
+  row-is r p = c .row-before .ensures ∙ p .noted (turn .loop .end) (turn .loop .inv .low)
+
+-- and whose width is
+module _ (t : ℕ) (w : lts.After-width (called t) (pre t) read-index.Post Inv μ-loop) where
+  abbrev row : lts.After-row-before (called t) (pre t) read-index.Post Inv μ-loop
+  row = w .before .before .before
+
+  abbrev at : lts.At-loop (called t) (pre t) read-index.Post Inv μ-loop
+  at = turn t row
+
+  abbrev some : 0 < at .loop .count
+  some = row .before .loop-test .taken
+
+  abbrev k : ℕ
+  k = row .row-before .result
+
+  abbrev start : ℕ
+  start = at .loop .end - w .width .result
+
+  own : (1 ≤ w .width .result) × (w .width .result ≤ at .loop .end)
+  own = own-tokens (rows t at) (last t at) (at .loop .end) k _ (fits t at) (at .loop .inv .low) (row .row-before .ensures) (omega (arith, w .before .if2 .left)) (w .width .ensures)
+
+  found : (r : Records) → Rows r (rows t at) (last t at) → At (tokenAt r) (at .loop .end) k start
+  found = noted-at (rows t at) (last t at) (at .loop .end) k _ (fits t at) (at .loop .inv .low) (row .row-before .ensures) (omega (arith, w .before .if2 .left)) (w .width .ensures)
 
 -- the right operand is read
-middle-low : (t : ℕ) (c : lts.After-middle (called t) (pre t) read-index.Post) → c .middle .given .0 .0 ≤ start t (c .before .before .before .before) .args .end - c .before .before .before .before .width .result
-middle-low t c = index-middle (records t (start t (c .before .before .before .before)) [] []) _ _ (c .before .before .read-index .ensures [] []) _ (c .middle .given .1)
+module _ (t : ℕ) (c : lts.After-known-told (called t) (pre t) read-index.Post Inv μ-loop) where
+  abbrev wide : lts.After-width (called t) (pre t) read-index.Post Inv μ-loop
+  wide = c .before .before .before .before .before .before .before
 
-returns : (t : ℕ) → lts.Need-returns (called t) (pre t) read-index.Post
-returns t c places keys = index-before (records t (c .before .before .before .before) places keys) _ _ (c .before .production .ensures places keys) (c .if1 .taken)
+  abbrev middle : ℕ
+  middle = c .before .middle .given .0 .0
 
-returns-2 : (t : ℕ) → lts.Need-returns-2 (called t) (pre t) read-index.Post
-returns-2 t c places keys = index-beyond (records t (c .before .before .before .before .before) places keys) _ _ (c .before .before .production .ensures places keys) (c .if2 .taken)
+  low : middle ≤ start t wide
+  low =
+      let told = c .before .before .before in
+      operand-low (rows t (at t wide)) (start t wide) _ read (told .before .read-index .ensures) _ (told .told .ensures) middle (c .before .middle .given .1)
 
-width-requires : (t : ℕ) → lts.Need-width-requires (called t) (pre t) read-index.Post
-width-requires t c κs = omega (arith, c .if2 .left)
+returns : (t : ℕ) → lts.Need-returns (called t) (pre t) read-index.Post Inv μ-loop
+returns t c = let b = c .before in
+    nothing-read t (turn t b) λ r p. index-before r _ _ (row-is t b r p) (c .if1 .taken) _ (b .before .loop-test .taken)
 
-returns-3 : (t : ℕ) → lts.Need-returns-3 (called t) (pre t) read-index.Post
-returns-3 t c places keys =
-    let w = c .before in
-    index-terminal (records t (start t w) places keys) _ _ _ (found t w places keys .1) (c .before .before .before .if1 .left) (c .if3 .taken)
+returns-2 : (t : ℕ) → lts.Need-returns-2 (called t) (pre t) read-index.Post Inv μ-loop
+returns-2 t c = let b = c .before .before in
+    nothing-read t (turn t b) λ r p. index-beyond r _ _ (row-is t b r p) (c .if2 .taken) _ (b .before .loop-test .taken)
 
-right-requires : (t : ℕ) → lts.Need-read-index-requires (called t) (pre t) read-index.Post
-right-requires t c κs = let w = c .before in let f = found t w [] [] in (omega (arith, f .1 .low, start t w .pre .0), numbered t (start t w) _ (omega (arith, f .1 .low)))
+again : (t : ℕ) → lts.Need-loop-again (called t) (pre t) read-index.Post Inv μ-loop
+again t c = let w = c .before in let h = own t w in
+    next t (at t w) _ _ (omega (arith, h)) (omega (arith, h, some t w)) λ r p.
+    index-terminal r _ _ _ (found t w r p) (w .before .before .if1 .left) (c .if3 .taken) _ (some t w)
 
-returns-4 : (t : ℕ) → lts.Need-returns-4 (called t) (pre t) read-index.Post
-returns-4 t c places keys =
-    let w = c .before .before .before .before in
-    operation-none (records t (start t w) places keys) _ _ _ (found t w places keys .1) (c .before .before .before .if3 .left) (c .before .before .before .before .before .if2 .left) _ (c .before .before .read-index .ensures places keys) (c .enum-told .given .1)
+again-2 : (t : ℕ) → lts.Need-loop-again-2 (called t) (pre t) read-index.Post Inv μ-loop
+again-2 t c = let w = c .before .before in let h = own t w in
+    next t (at t w) _ _ (omega (arith, h)) (omega (arith, h)) λ r p.
+    index-plain r _ _ _ (found t w r p) (c .before .if3 .left) (c .if4 .taken) _ (some t w)
 
-left-end-requires : (t : ℕ) → lts.Need-left-end-requires (called t) (pre t) read-index.Post
-left-end-requires t c κs =
-    let w = c .before .before .before .before .before in omega (arith, middle-low t (c .before), found t w [] [] .1 .low, start t w .pre .1 .within)
+right-requires : (t : ℕ) → lts.Need-read-index-requires (called t) (pre t) read-index.Post Inv μ-loop
+right-requires t c κs = let w = c .before .before in let h = own t w in let l = at t w .loop .inv .low in
+    (omega (arith, h, l, at t w .before .pre .0), fitting-fewer (rows t (at t w)) (last t (at t w)) _ (fits t (at t w)) (omega (arith, h, l)))
 
-left-requires : (t : ℕ) → lts.Need-read-index-requires-2 (called t) (pre t) read-index.Post
-left-requires t c κs =
-    let w = c .before .before .before .before .before .before in
-    let l = left-low _ _ _ _ (c .left-end .ensures (start t w .args .numbers .now) [] []) in
-    let m = middle-low t (c .before .before) in
-    let f = found t w [] [] .1 .low in
-    (omega (arith, l, m, f, start t w .pre .0), numbered t (start t w) _ (omega (arith, l, m, f)))
+returns-3 : (t : ℕ) → lts.Need-returns-3 (called t) (pre t) read-index.Post Inv μ-loop
+returns-3 t c = let told = c .before .before in let w = told .before .before .before .before in
+    nothing-read t (at t w) λ r p.
+    converted-none r _ _ _ (found t w r p) (told .before .before .if4 .left) (w .before .if2 .left) _
+    (told .told .ensures ∙ told .before .read-index .ensures .right r (rows-fewer r _ _ _ p (omega (arith, own t w, at t w .loop .inv .low)))) (c .enum-told .given .1) _ (some t w)
 
-returns-5 : (t : ℕ) → lts.Need-returns-5 (called t) (pre t) read-index.Post
-returns-5 t c places keys =
-    let w = c .before .before .before .before .before .before .before in
-    operation-left (records t (start t w) places keys) _ _ _ (found t w places keys .1) (c .before .before .before .before .before .before .if3 .left) (c .before .before .before .before .before .before .before .before .if2 .left) _ (c .before .before .before .before .before .read-index .ensures places keys)
-    _ (c .before .before .before .middle .given .1) _ (c .before .left-end .ensures (start t w .args .numbers .now) places keys) _ (c .read-index2 .ensures places keys)
+between-requires : (t : ℕ) → lts.Need-row-before-requires-2 (called t) (pre t) read-index.Post Inv μ-loop
+between-requires t c κs = let w = wide t c in omega (arith, low t c, at t w .loop .inv .low, fits t (at t w) .few)
+
+returns-4 : (t : ℕ) → lts.Need-returns-4 (called t) (pre t) read-index.Post Inv μ-loop
+returns-4 t c =
+    let b = c .before in let k = b .before in let w = wide t k in let told = k .before .before .before in
+    let l = at t w .loop .inv .low in
+    nothing-read t (at t w) λ r p.
+    unconverted r _ _ _ (found t w r p) (told .before .before .if4 .left) (w .before .if2 .left) _
+    (told .told .ensures ∙ told .before .read-index .ensures .right r (rows-fewer r _ _ _ p (omega (arith, own t w, l)))) _ (k .before .middle .given .1) _
+    (b .row-before2 .ensures ∙ p .noted _ (omega (arith, low t k, l))) (c .if5 .taken) _ (some t w)
+
+sub-between : (t : ℕ) → lts.Need-sub-end-2 (called t) (pre t) read-index.Post Inv μ-loop
+sub-between t c =
+    let b = c .before in let k = b .before in let w = wide t k in
+    between-there (rows t (at t w)) (last t (at t w)) _ _ (fits t (at t w)) (omega (arith, low t k, at t w .loop .inv .low)) (b .row-before2 .ensures) (c .if5 .left)
+
+again-3 : (t : ℕ) → lts.Need-loop-again-3 (called t) (pre t) read-index.Post Inv μ-loop
+again-3 t c =
+    let b = c .before in let k = b .before in let w = wide t k in let told = k .before .before .before in
+    let l = at t w .loop .inv .low in let h = own t w in let m = low t k in
+    let e : middle t k ≤ last t (at t w) = omega (arith, m, l) in
+    next t (at t w) _ _ (omega (arith, m, h)) (omega (arith, m, h)) λ r p.
+    converted-left r _ _ _ (found t w r p) (told .before .before .if4 .left) (w .before .if2 .left) _
+    (told .told .ensures ∙ told .before .read-index .ensures .right r (rows-fewer r _ _ _ p (omega (arith, h, l)))) _ (k .before .middle .given .1) _
+    (b .row-before2 .ensures ∙ p .noted _ e) _ (between-at (rows t (at t w)) (last t (at t w)) _ _ (fits t (at t w)) e (b .row-before2 .ensures) (c .if5 .left) r p) _ (some t w)
+
+returns-5 : (t : ℕ) → lts.Need-returns-5 (called t) (pre t) read-index.Post Inv μ-loop
+returns-5 t c = let a = c .before in
+    loop-done indexes (rows t a) (last t a) read one (fits t a .few) (λ ts. refl) _ _ (a .loop .inv) (omega (arith, c .loop-test .left))
 
 pub +read-index-spec : {M : Type 1} → statement M
 +read-index-spec = close μ λ t. lts.spec (called t)
     (pre t)
     read-index.Post
-    (λ c κs. search needs)
+    Inv
+    μ-loop
+    (λ c. loop-start indexes _ _)
+    (λ c κs. let a = c .before in omega (arith, a .loop .inv .low, fits t a .few))
     (returns t)
     (returns-2 t)
-    (width-requires t)
-    (λ c. found t c [] [] .0)
-    (returns-3 t)
+    (λ c κs. omega (arith, c .if2 .left))
+    (λ c. own t c .1)
+    (λ c. some t (c .before))
+    (λ c. omega (arith, own t (c .before)))
+    (again t)
+    (λ c. let w = c .before .before in omega (arith, at t w .loop .inv .room, own t w, fits t (at t w) .few))
+    (λ c. omega (arith, own t (c .before .before)))
+    (again-2 t)
     (right-requires t)
+    (λ c κs. search needs)
     (λ c. search needs)
     (λ c. search needs)
+    (returns-3 t)
+    (between-requires t)
     (returns-4 t)
-    (left-end-requires t)
-    (left-requires t)
+    (sub-between t)
+    (λ c. let k = c .before .before in omega (arith, low t k, own t (wide t k)))
+    (again-3 t)
     (returns-5 t)

@@ -1,120 +1,216 @@
--- The reader's steps by rows, with a falling end.
-use Prim.Native.Nat.{ℕ, _-_, _<_, _≤_}
-use mathlib.Core.List.{List, []}
+-- The reader's turns by rows: the loop is `Loop` over `values`, and each call falls.
+use Prim.Native.Nat.{ℕ, _+_, _-_, _<_, _≤_}
+use mathlib.Core.Path.{_≡_, refl, sym, _∙_}
+use mathlib.Core.List.{List}
 use native.Mathlib.Omega.{arith}
 use borrow.Author.Needs.{needs}
 use borrow.Fn.Kinds.{In}
 use borrow.Fn.PlainCycle.{Measures, is, falls, and}
-use Rattle.semantics.specs.Records.{Records, recordsOf, tokenAt}
-use Rattle.productions.specs.Before.{Numbered}
-use Rattle.productions.proofs.Places.{At, fewer, row-found}
-use Rattle.readers.proofs.Onward.{binary-left, binary-none, value-beyond, value-const, value-lookup, value-middle, value-oracle, value-unary}
+use Rattle.semantics.specs.Code.{maxTokens}
+use Rattle.semantics.specs.Operations.{Token}
+use Rattle.semantics.specs.Records.{Records, tokenAt}
+use Rattle.semantics.specs.FromTokens.{exprFromTokens, idxFromTokens}
+use Rattle.productions.specs.Before.{before}
+use Rattle.productions.specs.Ending.{production, rowFound}
+use Rattle.productions.proofs.Places.{At}
+use Rattle.readers.specs.declared.Reading.{Reading}
+use Rattle.productions.specs.Noted.{Fitting, Rows}
+use Rattle.readers.specs.Readings.{Answers, readingOf}
+use Rattle.readers.proofs.Steps.{reading-on}
+use Rattle.readers.proofs.Onward.{binary-left, binary-none, lookup-none, lookup-read, value-beyond, value-const, value-counted, value-oracle, value-unary, values}
+use Rattle.productions.proofs.Noted.{fitting-fewer, noted-at, own-tokens, rows-fewer}
+use Rattle.readers.proofs.Turns.{Loop, loop-done, loop-nothing, loop-start, loop-turn, operand-low}
 use Rattle.readers.proofs.read_value.Reads as read-value
 use Rattle.readers.proofs.read_value.Kinds as read-value-kinds
 use Rattle.readers.proofs.+read_value.Lts-read_value as lts
-use Rattle.productions.proofs.production.Reads as production-reads
 use Rattle.productions.proofs.width.Reads as width-reads
 use Rattle.readers.proofs.read_index.Reads as read-index-reads
+use Rattle.productions.proofs.row_before.Reads as row-before-reads
+use Rattle.readers.proofs.told.Reads as told-reads
 use Rattle.readers.proofs.+read_value.{statement}
 use Rattle.readers.proofs.+read_value.Tie.{close}
 
-abbrev μ : Measures 2 read-value-kinds.ps ℕ
-μ κs a = a .1 .1 .0
+abbrev μ : Measures 1 read-value-kinds.ps ℕ
+μ κs a = a .1 .0
 
-abbrev pre : ℕ → In 2 read-value-kinds.ps
-pre t = and 2 read-value-kinds.ps (is 2 read-value-kinds.ps μ t) read-value.Pre
+abbrev pre : ℕ → In 1 read-value-kinds.ps
+pre t = and 1 read-value-kinds.ps (is 1 read-value-kinds.ps μ t) read-value.Pre
 
-abbrev below : ℕ → In 2 read-value-kinds.ps
-below t = and 2 read-value-kinds.ps (falls 2 read-value-kinds.ps _<_ μ t) read-value.Pre
+abbrev below : ℕ → In 1 read-value-kinds.ps
+below t = and 1 read-value-kinds.ps (falls 1 read-value-kinds.ps _<_ μ t) read-value.Pre
 
--- what the callees ask and tell
 abbrev called : ℕ → lts.Claims
-called t = (production-reads.Asked, production-reads.Learnt, width-reads.Asked, width-reads.Learnt, read-index-reads.Asked, read-index-reads.Learnt, below t, read-value.Post)
+called t =
+    (row-before-reads.Asked, row-before-reads.Learnt, width-reads.Asked, width-reads.Learnt, read-index-reads.Asked, read-index-reads.Learnt, told-reads.Asked, told-reads.Learnt, below t, read-value.Post)
 
-abbrev Start : ℕ → Type 0
-Start t = lts.Start (called t) (pre t) read-value.Post
+abbrev Inv : lts.InvT-loop
+Inv rows last end₀ count₀ end count = Loop values rows last end count
 
-abbrev records : (t : ℕ) → Start t → List ℕ → List ℕ → Records
-records t s places keys = recordsOf (s .args .kinds .now) (s .args .numbers .now) places keys
+abbrev μ-loop : lts.MeasureT-loop
+μ-loop rows last end₀ count₀ end count = end
 
-numbered : (t : ℕ) (s : Start t) (n : ℕ) → n ≤ s .args .end → Numbered (s .args .kinds .now) (s .args .numbers .now) n
-numbered t s n h = fewer (s .args .kinds .now) (s .args .numbers .now) (s .args .end) n (s .pre .1) h
+abbrev read : List Token → Reading
+read ts = readingOf (exprFromTokens ts)
 
--- a row is found, and its width is known
-abbrev Wide : ℕ → Type 0
-Wide t = lts.After-width (called t) (pre t) read-value.Post
+one : (ts : List Token) → values 1 ts ≡ read ts
+one ts = sym (reading-on (exprFromTokens ts))
 
-abbrev start : (t : ℕ) → Wide t → Start t
-start t c = c .before .before .before .before .before
+-- in a turn
+module _ (t : ℕ) (a : lts.At-loop (called t) (pre t) read-value.Post Inv μ-loop) where
+  abbrev rows : List ℕ
+  rows = a .before .args .rows .now
 
-found : (t : ℕ) (c : Wide t) (places keys : List ℕ)
-    → (c .width .result ≤ start t c .args .end)
-    × At (tokenAt (records t (start t c) places keys)) (start t c .args .end) (c .before .before .production .result) (start t c .args .end - c .width .result)
-found t c places keys =
-    row-found (tokenAt (records t (start t c) places keys)) _ _ _ (c .before .before .production .ensures places keys) (omega (arith, c .before .if1 .left)) (c .width .ensures)
+  abbrev last : ℕ
+  last = a .before .args .last
 
--- the operand that is read first
-operand : (t : ℕ) (w : Wide t) → let n = start t w .args .end - w .width .result in (n < t) × Numbered (start t w .args .kinds .now) (start t w .args .numbers .now) n
-operand t w = let f = found t w [] [] in (omega (arith, f .1 .low, start t w .pre .0), numbered t (start t w) _ (omega (arith, f .1 .low)))
+  abbrev fits : Fitting rows last
+  fits = a .before .pre .1
 
-returns : (t : ℕ) → lts.Need-returns (called t) (pre t) read-value.Post
-returns t c places keys = value-beyond (records t (c .before .before .before .before) places keys) _ _ (c .before .production .ensures places keys) (c .if1 .taken)
+  nothing-read : ((r : Records) → Rows r rows last → Reading.Nothing ≡ values (a .loop .count) (before (tokenAt r) (a .loop .end))) → Answers rows last (maxTokens + 1) read
+  nothing-read e = loop-nothing values rows last read one (fits .few) (a .loop .end) (a .loop .count) (a .loop .inv) e
 
-width-requires : (t : ℕ) → lts.Need-width-requires (called t) (pre t) read-value.Post
-width-requires t c κs = omega (arith, c .if1 .left)
+  next : (end count : ℕ) → end ≤ a .loop .end → count + end ≤ a .loop .count + a .loop .end
+      → ((r : Records) → Rows r rows last → values (a .loop .count) (before (tokenAt r) (a .loop .end)) ≡ values count (before (tokenAt r) end)) → Loop values rows last end count
+  next end count h room e = loop-turn values rows last (a .loop .end) (a .loop .count) end count (a .loop .inv) h room e
 
-returns-2 : (t : ℕ) → lts.Need-returns-2 (called t) (pre t) read-value.Post
-returns-2 t c places keys = let w = c .before in value-const (records t (start t w) places keys) _ _ _ (found t w places keys .1) (c .if2 .taken)
+-- whose row and width are told
+module _ (t : ℕ) (w : lts.After-width (called t) (pre t) read-value.Post Inv μ-loop) where
+  abbrev row : lts.After-row-before (called t) (pre t) read-value.Post Inv μ-loop
+  row = w .before .before
 
-returns-3 : (t : ℕ) → lts.Need-returns-3 (called t) (pre t) read-value.Post
-returns-3 t c places keys =
-    let w = c .before .before .before in
-    value-lookup (records t (start t w) places keys) _ _ _ (found t w places keys .1) (c .before .before .if2 .left) (c .before .if3 .taken) _ (c .read-index .ensures places keys)
+  abbrev at : lts.At-loop (called t) (pre t) read-value.Post Inv μ-loop
+  at = row .before .before
 
-returns-4 : (t : ℕ) → lts.Need-returns-4 (called t) (pre t) read-value.Post
-returns-4 t c places keys =
-    let w = c .before .before .before .before in
-    value-unary (records t (start t w) places keys) _ _ _ (found t w places keys .1) _ (c .read-value .ensures places keys) (c .before .before .if3 .left) (c .before .if4 .taken)
+  abbrev some : 0 < at .loop .count
+  some = row .before .loop-test .taken
 
-returns-5 : (t : ℕ) → lts.Need-returns-5 (called t) (pre t) read-value.Post
-returns-5 t c places keys =
-    let w = c .before .before .before .before in value-oracle (records t (start t w) places keys) _ _ _ (found t w places keys .1) (c .if5 .taken) (c .before .before .before .before .before .if1 .left)
+  abbrev k : ℕ
+  k = row .row-before .result
 
-returns-6 : (t : ℕ) → lts.Need-returns-6 (called t) (pre t) read-value.Post
-returns-6 t c places keys =
-    let w = c .before .before .before .before .before .before .before in
-    binary-none (records t (start t w) places keys) _ _ _ (found t w places keys .1) _ (c .before .before .read-value2 .ensures places keys) (c .before .before .before .before .if4 .left) (c .before .before .before .if5 .left) (c .enum-told .given .1)
+  abbrev start : ℕ
+  start = at .loop .end - w .width .result
 
-left-requires : (t : ℕ) → lts.Need-read-value-requires-3 (called t) (pre t) read-value.Post
-left-requires t c κs =
-    let w = c .before .before .before .before .before .before .before .before in
-    let m = value-middle (records t (start t w) [] []) _ _ (c .before .before .before .read-value2 .ensures [] []) _ (c .before .middle .given .1) in
-    let f = found t w [] [] .1 .low in
-    (omega (arith, m, f, start t w .pre .0), numbered t (start t w) _ (omega (arith, m, f)))
+  own : (1 ≤ w .width .result) × (w .width .result ≤ at .loop .end)
+  own = own-tokens (rows t at) (last t at) (at .loop .end) k _ (fits t at) (at .loop .inv .low) (row .row-before .ensures) (omega (arith, w .before .if1 .left)) (w .width .ensures)
 
-returns-7 : (t : ℕ) → lts.Need-returns-7 (called t) (pre t) read-value.Post
-returns-7 t c places keys =
-    let w = c .before .before .before .before .before .before .before .before .before in
-    binary-left (records t (start t w) places keys) _ _ _ (found t w places keys .1) _ (c .before .before .before .before .read-value2 .ensures places keys) (c .before .before .before .before .before .before .if4 .left) (c .before .before .before .before .before .if5 .left)
-    _ (c .before .before .middle .given .1) _ (c .read-value3 .ensures places keys)
+  found : (r : Records) → Rows r (rows t at) (last t at) → At (tokenAt r) (at .loop .end) k start
+  found = noted-at (rows t at) (last t at) (at .loop .end) k _ (fits t at) (at .loop .inv .low) (row .row-before .ensures) (omega (arith, w .before .if1 .left)) (w .width .ensures)
+
+  operand-fits : Fitting (rows t at) start
+  operand-fits = fitting-fewer (rows t at) (last t at) start (fits t at) (omega (arith, own, at .loop .inv .low))
+
+  operand-rows : (r : Records) → Rows r (rows t at) (last t at) → Rows r (rows t at) start
+  operand-rows r p = rows-fewer r (rows t at) (last t at) start p (omega (arith, own, at .loop .inv .low))
+
+-- an index is read
+module _ (t : ℕ) (c : lts.After-known-told (called t) (pre t) read-value.Post Inv μ-loop) where
+  abbrev looked : lts.After-width (called t) (pre t) read-value.Post Inv μ-loop
+  looked = c .before .before .before .before .before .before .before
+
+  index-low : c .before .start .given .0 .0 ≤ start t looked
+  index-low =
+      let told = c .before .before .before in
+      operand-low (rows t (at t looked)) (start t looked) _ (λ ts. readingOf (idxFromTokens ts)) (told .before .read-index .ensures) _ (told .told .ensures) _ (c .before .start .given .1)
+
+-- the right operand is read
+module _ (t : ℕ) (c : lts.After-known-told2 (called t) (pre t) read-value.Post Inv μ-loop) where
+  abbrev wide : lts.After-width (called t) (pre t) read-value.Post Inv μ-loop
+  wide = c .before .before .before .before .before .before .before .before .before
+
+  low : c .before .middle .given .0 .0 ≤ start t wide
+  low =
+      let told = c .before .before .before in
+      operand-low (rows t (at t wide)) (start t wide) _ read (told .before .read-value .ensures) _ (told .told2 .ensures) _ (c .before .middle .given .1)
+
+returns : (t : ℕ) → lts.Need-returns (called t) (pre t) read-value.Post Inv μ-loop
+returns t c = let b = c .before in let a = b .before .before in
+    nothing-read t a λ r p. value-beyond r _ _ (b .row-before .ensures ∙ p .noted (a .loop .end) (a .loop .inv .low)) (c .if1 .taken) _ (b .before .loop-test .taken)
+
+again : (t : ℕ) → lts.Need-loop-again (called t) (pre t) read-value.Post Inv μ-loop
+again t c = let w = c .before in let h = own t w in
+    next t (at t w) _ _ (omega (arith, h)) (omega (arith, h, some t w)) λ r p. value-const r _ _ _ (found t w r p) (c .if2 .taken) _ (some t w)
+
+returns-2 : (t : ℕ) → lts.Need-returns-2 (called t) (pre t) read-value.Post Inv μ-loop
+returns-2 t c = let told = c .before .before in let b = told .before .before in let w = b .before .before in
+    nothing-read t (at t w) λ r p.
+    lookup-none r _ _ _ (found t w r p) (b .before .if2 .left) (b .if3 .taken) _
+    (told .told .ensures ∙ told .before .read-index .ensures .right r (operand-rows t w r p)) (c .enum-told .given .1) _ (some t w)
+
+again-2 : (t : ℕ) → lts.Need-loop-again-2 (called t) (pre t) read-value.Post Inv μ-loop
+again-2 t c = let told = c .before .before .before in let b = told .before .before in let w = looked t c in let h = own t w in let m = index-low t c in
+    next t (at t w) _ _ (omega (arith, h, m)) (omega (arith, h, m, some t w)) λ r p.
+    lookup-read r _ _ _ (found t w r p) (b .before .if2 .left) (b .if3 .taken) _
+    (told .told .ensures ∙ told .before .read-index .ensures .right r (operand-rows t w r p)) _ (c .before .start .given .1) _ (some t w)
+
+again-3 : (t : ℕ) → lts.Need-loop-again-3 (called t) (pre t) read-value.Post Inv μ-loop
+again-3 t c = let w = c .before .before .before in let h = own t w in
+    next t (at t w) _ _ (omega (arith, h)) (omega (arith, h)) λ r p. value-unary r _ _ _ (found t w r p) (c .before .if3 .left) (c .if4 .taken) _ (some t w)
+
+right-requires : (t : ℕ) → lts.Need-read-value-requires (called t) (pre t) read-value.Post Inv μ-loop
+right-requires t c κs = let w = c .before .before .before .before in
+    (omega (arith, own t w, at t w .loop .inv .low, at t w .before .pre .0), operand-fits t w)
+
+returns-3 : (t : ℕ) → lts.Need-returns-3 (called t) (pre t) read-value.Post Inv μ-loop
+returns-3 t c = let told = c .before .before in let b = told .before .before in let w = b .before .before .before .before in
+    nothing-read t (at t w) λ r p.
+    binary-none r _ _ _ (found t w r p) (b .before .if4 .left) (omega (arith, b .if5 .taken)) _
+    (told .told2 .ensures ∙ told .before .read-value .ensures .right r (operand-rows t w r p)) (c .enum-told2 .given .1) _ (some t w)
+
+again-4 : (t : ℕ) → lts.Need-loop-again-4 (called t) (pre t) read-value.Post Inv μ-loop
+again-4 t c = let told = c .before .before .before in let b = told .before .before in let w = wide t c in let h = own t w in let m = low t c in
+    next t (at t w) _ _ (omega (arith, h, m)) (omega (arith, h, m)) λ r p.
+    binary-left r _ _ _ (found t w r p) (b .before .if4 .left) (omega (arith, b .if5 .taken)) _
+    (told .told2 .ensures ∙ told .before .read-value .ensures .right r (operand-rows t w r p)) _ (c .before .middle .given .1) _ (some t w)
+
+again-5 : (t : ℕ) → lts.Need-loop-again-5 (called t) (pre t) read-value.Post Inv μ-loop
+again-5 t c = let w = c .before .before .before .before .before in let h = own t w in
+    next t (at t w) _ _ (omega (arith, h)) (omega (arith, h)) λ r p.
+    value-counted r _ _ _ (found t w r p) (omega (arith, c .before .if5 .left)) (c .if6 .taken) _ (some t w)
+
+again-6 : (t : ℕ) → lts.Need-loop-again-6 (called t) (pre t) read-value.Post Inv μ-loop
+again-6 t c = let w = c .before .before .before .before .before in let h = own t w in
+    next t (at t w) _ _ (omega (arith, h)) (omega (arith, h, some t w)) λ r p.
+    value-oracle r _ _ _ (found t w r p) (c .if6 .left) (w .before .if1 .left) _ (some t w)
+
+returns-4 : (t : ℕ) → lts.Need-returns-4 (called t) (pre t) read-value.Post Inv μ-loop
+returns-4 t c = let a = c .before in
+    loop-done values (rows t a) (last t a) read one (fits t a .few) (λ ts. refl) _ _ (a .loop .inv) (omega (arith, c .loop-test .left))
 
 pub +read-value-spec : {M : Type 1} → statement M
 +read-value-spec = close μ λ t. lts.spec (called t)
     (pre t)
     read-value.Post
-    (λ c κs. search needs)
+    Inv
+    μ-loop
+    (λ c. loop-start values _ _)
+    (λ c κs. let a = c .before in omega (arith, a .loop .inv .low, fits t a .few))
     (returns t)
-    (width-requires t)
-    (λ c. found t c [] [] .0)
+    (λ c κs. omega (arith, c .if1 .left))
+    (λ c. own t c .1)
+    (λ c. some t (c .before))
+    (λ c. omega (arith, own t (c .before)))
+    (again t)
+    (λ c κs. operand-fits t (c .before .before))
+    (λ c κs. search needs)
+    (λ c. search needs)
+    (λ c. search needs)
     (returns-2 t)
-    (λ c κs. operand t (c .before .before) .1)
+    (λ c. some t (looked t c))
+    (λ c. omega (arith, index-low t c, own t (looked t c)))
+    (again-2 t)
+    (λ c. omega (arith, own t (c .before .before .before)))
+    (again-3 t)
+    (right-requires t)
+    (λ c κs. search needs)
+    (λ c. search needs)
+    (λ c. search needs)
     (returns-3 t)
-    (λ c κs. operand t (c .before .before .before))
+    (λ c. omega (arith, low t c, own t (wide t c)))
+    (again-4 t)
+    (λ c. let w = c .before .before .before .before .before in omega (arith, at t w .loop .inv .room, own t w, fits t (at t w) .few))
+    (λ c. omega (arith, own t (c .before .before .before .before .before)))
+    (again-5 t)
+    (λ c. some t (c .before .before .before .before .before))
+    (λ c. omega (arith, own t (c .before .before .before .before .before)))
+    (again-6 t)
     (returns-4 t)
-    (returns-5 t)
-    (λ c κs. operand t (c .before .before .before .before))
-    (λ c. search needs)
-    (λ c. search needs)
-    (returns-6 t)
-    (left-requires t)
-    (returns-7 t)

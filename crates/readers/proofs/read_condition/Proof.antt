@@ -1,58 +1,74 @@
 -- A comparison, and two value expressions before it.
 use borrow.Author.Needs.{needs}
 use Prim.Native.Nat.{ℕ, _-_, _≤_}
-use mathlib.Core.List.{List, []}
+use mathlib.Core.Path.{_≡_, _∙_}
+use mathlib.Core.List.{List}
 use native.Mathlib.Omega.{arith}
-use lib.ListN.{length}
-use Rattle.semantics.specs.Records.{Records, recordsOf, tokenAt}
-use Rattle.productions.specs.Before.{Numbered}
-use Rattle.productions.proofs.Places.{At, fewer, row-found}
-use Rattle.readers.proofs.Onward.{compared-left, compared-none, condition-before, condition-beyond, value-middle}
+use Rattle.semantics.specs.Records.{Records, tokenAt}
+use Rattle.semantics.specs.FromTokens.{exprFromTokens}
+use Rattle.productions.specs.Noted.{Fitting, Rows}
+use Rattle.productions.proofs.Places.{At}
+use Rattle.productions.proofs.Noted.{fitting-fewer, noted-at, own-tokens, rows-fewer}
+use Rattle.readers.specs.Readings.{readingOf}
+use Rattle.readers.proofs.Onward.{compared-left, compared-none, condition-before, condition-beyond}
+use Rattle.readers.proofs.Turns.{operand-low}
 use Rattle.readers.proofs.read_condition.Statement.{statement}
 use Rattle.readers.proofs.read_condition.Tie as tie
 
-abbrev records : tie.Start → List ℕ → List ℕ → Records
-records s places keys = recordsOf (s .args .kinds .now) (s .args .numbers .now) places keys
+abbrev rows : tie.Start → List ℕ
+rows s = s .args .rows .now
 
 abbrev size : tie.Start → ℕ
-size s = length (s .args .kinds .now)
-
-numbered : (s : tie.Start) (n : ℕ) → n ≤ size s → Numbered (s .args .kinds .now) (s .args .numbers .now) n
-numbered s n h = fewer (s .args .kinds .now) (s .args .numbers .now) (size s) n (s .pre) h
-
--- a row is found, and its width is known
-abbrev start : tie.After-width → tie.Start
-start c = c .before .before .before .before .before .before
-
-found : (c : tie.After-width) (places keys : List ℕ)
-    → (c .width .result ≤ size (start c)) × At (tokenAt (records (start c) places keys)) (size (start c)) (c .before .before .before .production .result) (size (start c) - c .width .result)
-found c places keys =
-    row-found (tokenAt (records (start c) places keys)) _ _ _ (c .before .before .before .production .ensures places keys) (c .before .if2 .left) (c .width .ensures)
+size s = s .args .size
 
 returns : tie.Need-returns
-returns c places keys = condition-before (records (c .before .before .before .before) places keys) _ _ (c .before .production .ensures places keys) (c .if1 .taken)
+returns c r p = let b = c .before in condition-before r _ _ (b .row-before .ensures ∙ p .noted _ (omega arith)) (c .if1 .taken)
 
 returns-2 : tie.Need-returns-2
-returns-2 c places keys = condition-beyond (records (c .before .before .before .before .before) places keys) _ _ (c .before .before .production .ensures places keys) (c .if2 .taken)
+returns-2 c r p = let b = c .before .before in condition-beyond r _ _ (b .row-before .ensures ∙ p .noted _ (omega arith)) (c .if2 .taken)
 
-right-requires : tie.Need-read-value-requires
-right-requires c κs = numbered (start c) _ (omega (arith, found c [] [] .1 .low))
+-- a row is found, and its width is known
+module _ (c : tie.After-width) where
+  abbrev row : tie.After-row-before
+  row = c .before .before .before
+
+  abbrev begin : tie.Start
+  begin = row .before
+
+  abbrev start : ℕ
+  start = size begin - c .width .result
+
+  own : c .width .result ≤ size begin
+  own = own-tokens (rows begin) (size begin) (size begin) _ _ (begin .pre) (omega arith) (row .row-before .ensures) (c .before .if2 .left) (c .width .ensures) .1
+
+  found : (r : Records) → Rows r (rows begin) (size begin) → At (tokenAt r) (size begin) (row .row-before .result) start
+  found = noted-at (rows begin) (size begin) (size begin) _ _ (begin .pre) (omega arith) (row .row-before .ensures) (c .before .if2 .left) (c .width .ensures)
+
+  operand : (n : ℕ) → n ≤ start → Fitting (rows begin) n
+  operand n h = fitting-fewer (rows begin) (size begin) n (begin .pre) (omega arith)
+
+  operand-rows : (n : ℕ) → n ≤ start → (r : Records) → Rows r (rows begin) (size begin) → Rows r (rows begin) n
+  operand-rows n h r p = rows-fewer r (rows begin) (size begin) n p (omega arith)
+
+right-low : (c : tie.After-known-told) → let w = c .before .before .before .before .before in c .before .right .given .0 .0 ≤ start w
+right-low c =
+    let told = c .before .before .before in
+    let w = told .before .before in
+    operand-low (rows (begin w)) (start w) _ (λ ts. readingOf (exprFromTokens ts)) (told .before .read-value .ensures) _ (told .told .ensures) _ (c .before .right .given .1)
 
 returns-3 : tie.Need-returns-3
-returns-3 c places keys =
-    let w = c .before .before .before in
-    compared-none (records (start w) places keys) _ _ _ (found w places keys .1) (w .before .before .if1 .left) _ (c .before .before .read-value .ensures places keys) (c .enum-told .given .1)
-
-left-requires : tie.Need-read-value-requires-2
-left-requires c κs =
-    let w = c .before .before .before .before in
-    numbered (start w) _ (omega (arith, value-middle (records (start w) [] []) _ _ (c .before .before .before .read-value .ensures [] []) _ (c .before .right .given .1), found w [] [] .1 .low))
+returns-3 c r p =
+    let told = c .before .before in
+    let w = told .before .before in
+    compared-none r _ _ _ (found w r p) (w .before .before .if1 .left) _ (told .told .ensures ∙ told .before .read-value .ensures .right r (operand-rows w _ (omega arith) r p)) (c .enum-told .given .1)
 
 returns-4 : tie.Need-returns-4
-returns-4 c places keys =
-    let w = c .before .before .before .before .before in
-    compared-left (records (start w) places keys) _ _ _ (found w places keys .1) (w .before .before .if1 .left) _ (c .before .before .before .before .read-value .ensures places keys)
-    _ (c .before .before .right .given .1) _ (c .read-value2 .ensures places keys)
+returns-4 c r p =
+    let k = c .before .before in
+    let told = k .before .before .before in
+    let w = told .before .before in
+    compared-left r _ _ _ (found w r p) (w .before .before .if1 .left) _ (told .told .ensures ∙ told .before .read-value .ensures .right r (operand-rows w _ (omega arith) r p))
+    _ (k .before .right .given .1) _ (c .told2 .ensures ∙ c .before .read-value2 .ensures .right r (operand-rows w _ (right-low k) r p))
 
 pub read-condition-spec : {M : Type 1} → statement M
 read-condition-spec =
@@ -62,10 +78,12 @@ read-condition-spec =
     returns
     returns-2
     (λ c κs. search needs)
-    (λ c. found c [] [] .0)
-    right-requires
+    own
+    (λ c κs. operand c _ (omega arith))
+    (λ c κs. search needs)
     (λ c. search needs)
     (λ c. search needs)
     returns-3
-    left-requires
+    (λ c κs. operand (c .before .before .before .before .before) _ (right-low c))
+    (λ c κs. search needs)
     returns-4)
