@@ -34,9 +34,10 @@ fn decode_sound(
 {
     let mut rows = [0u8; MAX_TOKENS];
     find_rows(kinds, numbers, &mut rows);
-    let Reading::Read(start) = read_condition(&rows, kinds.len()) else {
+    let Reading::Read(place) = read_condition(&rows, kinds.len()) else {
         return Decoded::Refused(Refusal::NoCondition);
     };
+    let start = place as usize;
     let Judged::Kept(bytes) = judge(kinds, &rows, start) else {
         return Decoded::Refused(Refusal::NoCondition);
     };

@@ -1,13 +1,10 @@
 -- A turn of the readers' loops: what is read of so many expressions, by the row that the tokens before a place end with.
 use Prim.Native.Nat.{ℕ, zero, suc, _+_, _-_, _<_, _≤_}
-use mathlib.Core.Bool.{Bool, true, false, cond}
+use mathlib.Core.Bool.{Bool, true, false}
 use mathlib.Core.Path.{_≡_, refl, sym, ap, _∙_}
 use mathlib.Core.List.{List, [], _∷_, _++_, reverse}
 use native.Mathlib.Omega.{arith}
 use native.Mathlib.Numerals.{add-one}
-use lib.ListN.{length, getD}
-use lib.Dec.{eqb, ltb}
-use borrow.Author.Tests.{le-ltb, lt-ltb, ltb-false, ltb-true}
 use Rattle.semantics.specs.Operations.{Token, idxRow}
 use Rattle.semantics.specs.declared.IdxOp.{IdxOp}
 use Rattle.semantics.specs.Records.{Records, tokenAt}
@@ -17,7 +14,7 @@ use Rattle.semantics.proofs.Find.{Reads, find-sound}
 use Rattle.productions.specs.Before.{before}
 use Rattle.productions.specs.Ending.{Production, ending, ends, production, productionOf, rowFound, rows}
 use Rattle.productions.proofs.Shapes.{IndexShape, ValueShape, indexShape, valueShape}
-use Rattle.productions.proofs.Tokens.{length-before, recorded}
+use Rattle.productions.proofs.Tokens.{recorded}
 use Rattle.productions.proofs.Places.{At}
 use Rattle.productions.proofs.Endings.{isComparison, production-sound}
 use Rattle.productions.proofs.Table.{binaries, comparisons, converteds, first-terminal, index-terminals, last-terminals, lookups, no-comparisons, no-indexes, no-more-indexes, no-more-rows, no-values, plains, unaries}

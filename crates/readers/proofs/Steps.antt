@@ -1,10 +1,10 @@
 -- The definitions' readers, one step, by the row that the tokens end with and by what is read before: `index-step`, `value-step`, `condition-step`.
-use Prim.Native.Nat.{ℕ, _≤_}
+use Prim.Native.Nat.{ℕ}
 use mathlib.Core.Bool.{Bool, true, false}
 use mathlib.Core.Path.{_≡_, refl, sym, ap, _∙_}
 use mathlib.Core.List.{List, _++_, reverse}
 use native.Mathlib.Omega.{arith}
-use lib.ListN.{length, drop, length-append}
+use lib.ListN.{length, drop}
 use lib.Seq.{drop-append-seam}
 use Rattle.slices.specs.Bytes.{All}
 use Rattle.semantics.specs.Operations.{Token}
@@ -20,7 +20,7 @@ use Rattle.productions.specs.Ending.{Production, production, productionOf}
 use Rattle.productions.proofs.Shapes.{IndexShape, ValueShape, indexShape, valueShape}
 use Rattle.readers.specs.Readings.{readingOf}
 use Rattle.readers.specs.declared.Reading.{Reading}
-use Rattle.productions.proofs.Tokens.{Recorded, length-before, tail-before}
+use Rattle.productions.proofs.Tokens.{Recorded, tail-before}
 use Rattle.productions.proofs.Endings.{comparison-seen, head-seen, idxHead-seen, isComparison, pickComparison, pickIndex, pickValue, picked, seen}
 
 -- a reading goes on before what was read, or ends there and then

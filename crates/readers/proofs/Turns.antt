@@ -1,13 +1,9 @@
 -- The invariant of both readers' loops, and what each way through a turn owes it.
-use Prim.Native.Nat.{ℕ, zero, suc, _+_, _-_, _<_, _≤_}
-use mathlib.Core.Bool.{Bool, true, false, cond}
+use Prim.Native.Nat.{ℕ, _+_, _-_, _≤_}
 use mathlib.Core.Path.{_≡_, refl, sym, ap, _∙_}
 use mathlib.Core.List.{List}
 use native.Mathlib.Omega.{arith}
-use borrow.Author.Tests.{le-ltb, lt-ltb, ltb-false}
-use lib.Dec.{ltb}
 use lib.ListN.{length}
-use Rattle.semantics.specs.Code.{maxTokens}
 use Rattle.semantics.specs.Operations.{Token}
 use Rattle.semantics.specs.Records.{Records, tokenAt}
 use Rattle.semantics.specs.Token.{exprForm}
@@ -19,30 +15,8 @@ use Rattle.productions.proofs.Tokens.{length-before}
 use Rattle.readers.specs.declared.Reading.{Reading}
 use Rattle.productions.specs.Noted.{Fitting, Rows, rowIn}
 use Rattle.productions.proofs.Noted.{noted-at, own-tokens}
-use Rattle.readers.specs.Readings.{Answers, told}
+use Rattle.readers.specs.Readings.{Answers}
 use Rattle.readers.proofs.Steps.{stop}
-
--- a reading as a number
-pub told-place : (n : ℕ) → n ≤ maxTokens → told n ≡ Reading.Read n
-unfolding told
-told-place n h = rw (le-ltb maxTokens n h)
-
-pub told-beyond : (n : ℕ) → maxTokens < n → told n ≡ Reading.Nothing
-unfolding told
-told-beyond n h = rw (lt-ltb maxTokens n h)
-
-told-is : (n m : ℕ) → told n ≡ Reading.Read m → (n ≡ m) × (n ≤ maxTokens)
-unfolding told
-told-is n m e = go (ltb maxTokens n) refl e
-  where
-    go : (b : Bool) → ltb maxTokens n ≡ b → cond b Reading.Nothing (Reading.Read n) ≡ Reading.Read m → (n ≡ m) × (n ≤ maxTokens)
-    go true q f = let z : _≡_ {A = ℕ} 0 1 = cc in absurd (omega arith)
-    go false q f = let is : n ≡ m = cc in (is, ltb-false maxTokens n q)
-
--- what is told of an operand that is read begins no further on
-pub operand-low : (rs : List ℕ) (start n : ℕ) (read : List Token → Reading) → Answers rs start n read → (x : Reading) → x ≡ told n → (middle : ℕ) → x ≡ Reading.Read middle → middle ≤ start
-operand-low rs start n read a x e middle there =
-    let h = told-is n middle (sym e ∙ there) in omega (arith, h .0, a .within (h .1))
 
 -- what stands between two index operands has one token
 between-width : length (rowAt 23 .marks) ≡ 1
@@ -71,19 +45,19 @@ module _ (reads : ℕ → List Token → Reading) (rs : List ℕ) (last : ℕ) w
   loop-turn end count end′ count′ l h room e =
       record { low = omega (arith, l .low); room = omega (arith, l .room); same = λ r p. sym (e r p) ∙ l .same r p }
 
-  module _ (read : List Token → Reading) (one : (ts : List Token) → reads 1 ts ≡ read ts) (few : last ≤ maxTokens) where
+  module _ (read : List Token → Reading) (one : (ts : List Token) → reads 1 ts ≡ read ts) where
     pub loop-nothing : (end count : ℕ) → Loop reads rs last end count → ((r : Records) → Rows r rs last → Reading.Nothing ≡ reads count (before (tokenAt r) end))
-        → Answers rs last (maxTokens + 1) read
+        → Answers rs last Reading.Nothing read
     loop-nothing end count l e =
         record {
-          within = λ h. absurd (omega (arith, h));
-          right = λ r p. told-beyond (maxTokens + 1) (omega arith) ∙ e r p ∙ l .same r p ∙ one (before (tokenAt r) last);
+          within = λ n h. let z : _≡_ {A = ℕ} 0 1 = cc in absurd (omega arith);
+          right = λ r p. e r p ∙ l .same r p ∙ one (before (tokenAt r) last);
         }
 
-    pub loop-done : ((ts : List Token) → reads 0 ts ≡ stop ts) → (end count : ℕ) → Loop reads rs last end count → count ≡ 0 → Answers rs last end read
+    pub loop-done : ((ts : List Token) → reads 0 ts ≡ stop ts) → (end count : ℕ) → Loop reads rs last end count → count ≡ 0 → Answers rs last (Reading.Read end) read
     loop-done none end count l z =
         record {
-          within = λ h. l .low;
-          right = λ r p. told-place end (omega (arith, l .low)) ∙ ap Reading.Read (sym (length-before (tokenAt r) end)) ∙ sym (none (before (tokenAt r) end))
+          within = λ n h. let is : end ≡ n = cc in omega (arith, l .low);
+          right = λ r p. ap Reading.Read (sym (length-before (tokenAt r) end)) ∙ sym (none (before (tokenAt r) end))
               ∙ ap (λ (n : ℕ). reads n (before (tokenAt r) end)) (sym z) ∙ l .same r p ∙ one (before (tokenAt r) last);
         }

@@ -1,11 +1,8 @@
 -- What the readers answer, by what the definitions' readers find.
 use Prim.Native.Nat.{ℕ, _≤_}
 use mathlib.Core.Path.{_≡_}
-use mathlib.Core.Bool.{cond}
 use mathlib.Core.List.{List}
-use lib.Dec.{ltb}
 use lib.ListN.{length}
-use Rattle.semantics.specs.Code.{maxTokens}
 use Rattle.semantics.specs.Operations.{Token}
 use Rattle.semantics.specs.Records.{Records, tokenAt}
 use Rattle.semantics.specs.FromTokens.{Found, found, nothing}
@@ -18,11 +15,7 @@ abbrev pub readingOf : {A : Type 0} → Found A → Reading
 readingOf (found a r) = Reading.Read (length r)
 readingOf nothing = Reading.Nothing
 
--- a reading as a number: the place, or more than any
-unfoldable pub told : ℕ → Reading
-told n = cond (ltb maxTokens n) Reading.Nothing (Reading.Read n)
-
--- the number n tells what is read of the tokens before `last`
-pub record Answers (rows : List ℕ) (last n : ℕ) (read : List Token → Reading) : Type 0 where
-  pub within : n ≤ maxTokens → n ≤ last
-  pub right : (r : Records) → Rows r rows last → told n ≡ read (before (tokenAt r) last)
+-- x is what is read of the tokens before `last`
+pub record Answers (rows : List ℕ) (last : ℕ) (x : Reading) (read : List Token → Reading) : Type 0 where
+  pub within : (n : ℕ) → x ≡ Reading.Read n → n ≤ last
+  pub right : (r : Records) → Rows r rows last → x ≡ read (before (tokenAt r) last)

@@ -20,40 +20,28 @@ ghost use Rattle.semantics.specs.FromTokens.{exprFromTokens, fromTokens, idxFro
 ghost use Rattle.semantics.specs.Records.{Records, tokenAt};
 ghost use Rattle.productions.specs.Before.{before};
 ghost use Rattle.productions.specs.Noted.{Fitting, Rows};
-ghost use Rattle.readers.specs.Readings.{Answers, readingOf, told};
+ghost use Rattle.readers.specs.Readings.{Answers, readingOf};
 
-// Where what was read begins.
+// Where what was read begins. A reader's answer lies in its caller's frame: 32 bits keep that small.
 pub enum Reading {
-    Read(usize),
+    Read(u32),
     Nothing,
 }
 
-// The readers answer a number, which stays in a register: a place, or more than any.
-const NOTHING: usize = MAX_TOKENS + 1;
-
-fn told(n: usize) -> Reading
-    ensures { λ r. ⌜ r ≡ told n ⌝ }
-{
-    if MAX_TOKENS < n {
-        return Reading::Nothing;
-    }
-    Reading::Read(n)
-}
-
 // The index expression that the tokens before `last` end with: `count` are still to be read, each before the one behind it.
-fn read_index(rows: &[u8; MAX_TOKENS], last: usize) -> usize
+fn read_index(rows: &[u8; MAX_TOKENS], last: usize) -> Reading
     requires { ⌜ Fitting (now rows) last ⌝ }
-    ensures { λ n. ⌜ Answers (now (rows .entry)) last n (λ ts. readingOf (idxFromTokens ts)) ⌝ }
+    ensures { λ x. ⌜ Answers (now (rows .entry)) last x (λ ts. readingOf (idxFromTokens ts)) ⌝ }
 {
     let mut end = last;
     let mut count: usize = 1;
     while 0 < count {
         let row = row_before(rows, end);
         if row < INDEXES {
-            return NOTHING;
+            return Reading::Nothing;
         }
         if BETWEEN <= row {
-            return NOTHING;
+            return Reading::Nothing;
         }
         end -= width(row);
         if row < INDEX_OPERATIONS {
@@ -64,28 +52,29 @@ fn read_index(rows: &[u8; MAX_TOKENS], last: usize) -> usize
             count += 1;
             continue;
         }
-        let Reading::Read(middle) = told(read_index(rows, end)) else {
-            return NOTHING;
+        let Reading::Read(place) = read_index(rows, end) else {
+            return Reading::Nothing;
         };
+        let middle = place as usize;
         if row_before(rows, middle) != BETWEEN {
-            return NOTHING;
+            return Reading::Nothing;
         }
         end = middle - 1;
     }
-    end
+    Reading::Read(end as u32)
 }
 
 // The value expression that the tokens before `last` end with: `count` are still to be read, each before the one behind it.
-fn read_value(rows: &[u8; MAX_TOKENS], last: usize) -> usize
+fn read_value(rows: &[u8; MAX_TOKENS], last: usize) -> Reading
     requires { ⌜ Fitting (now rows) last ⌝ }
-    ensures { λ n. ⌜ Answers (now (rows .entry)) last n (λ ts. readingOf (exprFromTokens ts)) ⌝ }
+    ensures { λ x. ⌜ Answers (now (rows .entry)) last x (λ ts. readingOf (exprFromTokens ts)) ⌝ }
 {
     let mut end = last;
     let mut count: usize = 1;
     while 0 < count {
         let row = row_before(rows, end);
         if INDEXES <= row {
-            return NOTHING;
+            return Reading::Nothing;
         }
         end -= width(row);
         if row < LOOKUPS {
@@ -93,10 +82,10 @@ fn read_value(rows: &[u8; MAX_TOKENS], last: usize) -> usize
             continue;
         }
         if row < UNARIES {
-            let Reading::Read(start) = told(read_index(rows, end)) else {
-                return NOTHING;
+            let Reading::Read(start) = read_index(rows, end) else {
+                return Reading::Nothing;
             };
-            end = start;
+            end = start as usize;
             count -= 1;
             continue;
         }
@@ -104,10 +93,10 @@ fn read_value(rows: &[u8; MAX_TOKENS], last: usize) -> usize
             continue;
         }
         if row < BIT_OPERATIONS {
-            let Reading::Read(middle) = told(read_value(rows, end)) else {
-                return NOTHING;
+            let Reading::Read(middle) = read_value(rows, end) else {
+                return Reading::Nothing;
             };
-            end = middle;
+            end = middle as usize;
             continue;
         }
         if row < ORACLES {
@@ -116,7 +105,7 @@ fn read_value(rows: &[u8; MAX_TOKENS], last: usize) -> usize
         }
         count -= 1;
     }
-    end
+    Reading::Read(end as u32)
 }
 
 // The condition that so many tokens end with.
@@ -132,8 +121,8 @@ pub fn read_condition(rows: &[u8; MAX_TOKENS], size: usize) -> Reading
         return Reading::Nothing;
     }
     let start = size - width(row);
-    let Reading::Read(right) = told(read_value(rows, start)) else {
+    let Reading::Read(right) = read_value(rows, start) else {
         return Reading::Nothing;
     };
-    told(read_value(rows, right))
+    read_value(rows, right as usize)
 }

@@ -57,8 +57,8 @@ abbrev read : tie.After-known-told → tie.After-read-condition
 read c = c .before .before .before
 
 read-is : (c : tie.After-known-told)
-    → let s = begin (found (read c)) in Reading.Read (c .before .start .given .0 .0) ≡ readingOf (fromTokens (before (tokenAt (records s)) (length (s .args .kinds .now))))
-read-is c = let f = found (read c) in sym (c .before .start .given .1) ∙ read c .read-condition .ensures (records (begin f)) (noted f)
+    → let s = begin (found (read c)) in Reading.Read (c .before .place .given .0 .0) ≡ readingOf (fromTokens (before (tokenAt (records s)) (length (s .args .kinds .now))))
+read-is c = let f = found (read c) in sym (c .before .place .given .1) ∙ read c .read-condition .ensures (records (begin f)) (noted f)
 
 returns : tie.Need-returns
 returns c =
@@ -74,7 +74,7 @@ told c = c .before .before
 
 judged-is : (c : tie.After-judge)
     → let s = begin (found (read (told c))) in
-    c .judge .result ≡ judged (allPieces (records s) (told c .before .start .given .0 .0))
+    c .judge .result ≡ judged (allPieces (records s) (told c .before .place .given .0 .0))
 judged-is c =
     let f = found (read (told c)) in
     let s = begin f in
@@ -120,6 +120,7 @@ decode-sound-spec =
     (λ c. search needs)
     (λ c. search needs)
     returns
+    (λ c. search needs)
     (λ c κs. fits (found (read (c .before))))
     (λ c. search needs)
     (λ c. search needs)

@@ -6,7 +6,6 @@ use native.Mathlib.Omega.{arith}
 use borrow.Author.Needs.{needs}
 use borrow.Fn.Kinds.{In}
 use borrow.Fn.PlainCycle.{Measures, is, falls, and}
-use Rattle.semantics.specs.Code.{maxTokens}
 use Rattle.semantics.specs.Operations.{Token}
 use Rattle.semantics.specs.Records.{Records, tokenAt}
 use Rattle.semantics.specs.FromTokens.{idxFromTokens}
@@ -19,13 +18,12 @@ use Rattle.readers.specs.Readings.{Answers, readingOf}
 use Rattle.readers.proofs.Steps.{reading-on}
 use Rattle.readers.proofs.Onward.{converted-left, converted-none, index-before, index-beyond, index-plain, index-terminal, indexes, unconverted}
 use Rattle.productions.proofs.Noted.{fitting-fewer, noted-at, own-tokens, rows-fewer}
-use Rattle.readers.proofs.Turns.{Loop, between-at, between-there, loop-done, loop-nothing, loop-start, loop-turn, operand-low}
+use Rattle.readers.proofs.Turns.{Loop, between-at, between-there, loop-done, loop-nothing, loop-start, loop-turn}
 use Rattle.readers.proofs.read_index.Reads as read-index
 use Rattle.readers.proofs.read_index.Kinds as read-index-kinds
 use Rattle.readers.proofs.+read_index.Lts-read_index as lts
 use Rattle.productions.proofs.width.Reads as width-reads
 use Rattle.productions.proofs.row_before.Reads as row-before-reads
-use Rattle.readers.proofs.told.Reads as told-reads
 use Rattle.readers.proofs.+read_index.{statement}
 use Rattle.readers.proofs.+read_index.Tie.{close}
 
@@ -39,7 +37,7 @@ abbrev below : ℕ → In 1 read-index-kinds.ps
 below t = and 1 read-index-kinds.ps (falls 1 read-index-kinds.ps _<_ μ t) read-index.Pre
 
 abbrev called : ℕ → lts.Claims
-called t = (row-before-reads.Asked, row-before-reads.Learnt, width-reads.Asked, width-reads.Learnt, below t, read-index.Post, told-reads.Asked, told-reads.Learnt)
+called t = (row-before-reads.Asked, row-before-reads.Learnt, width-reads.Asked, width-reads.Learnt, below t, read-index.Post)
 
 abbrev Inv : lts.InvT-loop
 Inv rows last end₀ count₀ end count = Loop indexes rows last end count
@@ -64,8 +62,8 @@ module _ (t : ℕ) (a : lts.At-loop (called t) (pre t) read-index.Post Inv μ-lo
   abbrev fits : Fitting rows last
   fits = a .before .pre .1
 
-  nothing-read : ((r : Records) → Rows r rows last → Reading.Nothing ≡ indexes (a .loop .count) (before (tokenAt r) (a .loop .end))) → Answers rows last (maxTokens + 1) read
-  nothing-read e = loop-nothing indexes rows last read one (fits .few) (a .loop .end) (a .loop .count) (a .loop .inv) e
+  nothing-read : ((r : Records) → Rows r rows last → Reading.Nothing ≡ indexes (a .loop .count) (before (tokenAt r) (a .loop .end))) → Answers rows last Reading.Nothing read
+  nothing-read e = loop-nothing indexes rows last read one (a .loop .end) (a .loop .count) (a .loop .inv) e
 
   next : (end count : ℕ) → end ≤ a .loop .end → count + end ≤ a .loop .count + a .loop .end
       → ((r : Records) → Rows r rows last → indexes (a .loop .count) (before (tokenAt r) (a .loop .end)) ≡ indexes count (before (tokenAt r) end)) → Loop indexes rows last end count
@@ -105,15 +103,13 @@ module _ (t : ℕ) (w : lts.After-width (called t) (pre t) read-index.Post Inv �
 -- the right operand is read
 module _ (t : ℕ) (c : lts.After-known-told (called t) (pre t) read-index.Post Inv μ-loop) where
   abbrev wide : lts.After-width (called t) (pre t) read-index.Post Inv μ-loop
-  wide = c .before .before .before .before .before .before .before
+  wide = c .before .before .before .before .before .before
 
   abbrev middle : ℕ
-  middle = c .before .middle .given .0 .0
+  middle = c .before .place .given .0 .0
 
   low : middle ≤ start t wide
-  low =
-      let told = c .before .before .before in
-      operand-low (rows t (at t wide)) (start t wide) _ read (told .before .read-index .ensures) _ (told .told .ensures) middle (c .before .middle .given .1)
+  low = c .before .before .before .read-index .ensures .within middle (c .before .place .given .1)
 
 returns : (t : ℕ) → lts.Need-returns (called t) (pre t) read-index.Post Inv μ-loop
 returns t c = let b = c .before in
@@ -138,21 +134,21 @@ right-requires t c κs = let w = c .before .before in let h = own t w in let l =
     (omega (arith, h, l, at t w .before .pre .0), fitting-fewer (rows t (at t w)) (last t (at t w)) _ (fits t (at t w)) (omega (arith, h, l)))
 
 returns-3 : (t : ℕ) → lts.Need-returns-3 (called t) (pre t) read-index.Post Inv μ-loop
-returns-3 t c = let told = c .before .before in let w = told .before .before .before .before in
+returns-3 t c = let right = c .before .before in let w = right .before .before .before in
     nothing-read t (at t w) λ r p.
-    converted-none r _ _ _ (found t w r p) (told .before .before .if4 .left) (w .before .if2 .left) _
-    (told .told .ensures ∙ told .before .read-index .ensures .right r (rows-fewer r _ _ _ p (omega (arith, own t w, at t w .loop .inv .low)))) (c .enum-told .given .1) _ (some t w)
+    converted-none r _ _ _ (found t w r p) (right .before .if4 .left) (w .before .if2 .left) _
+    (right .read-index .ensures .right r (rows-fewer r _ _ _ p (omega (arith, own t w, at t w .loop .inv .low)))) (c .enum-told .given .1) _ (some t w)
 
 between-requires : (t : ℕ) → lts.Need-row-before-requires-2 (called t) (pre t) read-index.Post Inv μ-loop
 between-requires t c κs = let w = wide t c in omega (arith, low t c, at t w .loop .inv .low, fits t (at t w) .few)
 
 returns-4 : (t : ℕ) → lts.Need-returns-4 (called t) (pre t) read-index.Post Inv μ-loop
 returns-4 t c =
-    let b = c .before in let k = b .before in let w = wide t k in let told = k .before .before .before in
+    let b = c .before in let k = b .before in let w = wide t k in let right = k .before .before .before in
     let l = at t w .loop .inv .low in
     nothing-read t (at t w) λ r p.
-    unconverted r _ _ _ (found t w r p) (told .before .before .if4 .left) (w .before .if2 .left) _
-    (told .told .ensures ∙ told .before .read-index .ensures .right r (rows-fewer r _ _ _ p (omega (arith, own t w, l)))) _ (k .before .middle .given .1) _
+    unconverted r _ _ _ (found t w r p) (right .before .if4 .left) (w .before .if2 .left) _
+    (right .read-index .ensures .right r (rows-fewer r _ _ _ p (omega (arith, own t w, l)))) _ (k .before .place .given .1) _
     (b .row-before2 .ensures ∙ p .noted _ (omega (arith, low t k, l))) (c .if5 .taken) _ (some t w)
 
 sub-between : (t : ℕ) → lts.Need-sub-end-2 (called t) (pre t) read-index.Post Inv μ-loop
@@ -162,17 +158,17 @@ sub-between t c =
 
 again-3 : (t : ℕ) → lts.Need-loop-again-3 (called t) (pre t) read-index.Post Inv μ-loop
 again-3 t c =
-    let b = c .before in let k = b .before in let w = wide t k in let told = k .before .before .before in
+    let b = c .before in let k = b .before in let w = wide t k in let right = k .before .before .before in
     let l = at t w .loop .inv .low in let h = own t w in let m = low t k in
     let e : middle t k ≤ last t (at t w) = omega (arith, m, l) in
     next t (at t w) _ _ (omega (arith, m, h)) (omega (arith, m, h)) λ r p.
-    converted-left r _ _ _ (found t w r p) (told .before .before .if4 .left) (w .before .if2 .left) _
-    (told .told .ensures ∙ told .before .read-index .ensures .right r (rows-fewer r _ _ _ p (omega (arith, h, l)))) _ (k .before .middle .given .1) _
+    converted-left r _ _ _ (found t w r p) (right .before .if4 .left) (w .before .if2 .left) _
+    (right .read-index .ensures .right r (rows-fewer r _ _ _ p (omega (arith, h, l)))) _ (k .before .place .given .1) _
     (b .row-before2 .ensures ∙ p .noted _ e) _ (between-at (rows t (at t w)) (last t (at t w)) _ _ (fits t (at t w)) e (b .row-before2 .ensures) (c .if5 .left) r p) _ (some t w)
 
 returns-5 : (t : ℕ) → lts.Need-returns-5 (called t) (pre t) read-index.Post Inv μ-loop
 returns-5 t c = let a = c .before in
-    loop-done indexes (rows t a) (last t a) read one (fits t a .few) (λ ts. refl) _ _ (a .loop .inv) (omega (arith, c .loop-test .left))
+    loop-done indexes (rows t a) (last t a) read one (λ ts. refl) _ _ (a .loop .inv) (omega (arith, c .loop-test .left))
 
 pub +read-index-spec : {M : Type 1} → statement M
 +read-index-spec = close μ λ t. lts.spec (called t)
@@ -193,13 +189,14 @@ pub +read-index-spec : {M : Type 1} → statement M
     (λ c. omega (arith, own t (c .before .before)))
     (again-2 t)
     (right-requires t)
-    (λ c κs. search needs)
     (λ c. search needs)
     (λ c. search needs)
     (returns-3 t)
+    (λ c. search needs)
     (between-requires t)
     (returns-4 t)
     (sub-between t)
     (λ c. let k = c .before .before in omega (arith, low t k, own t (wide t k)))
     (again-3 t)
+    (λ c. let a = c .before in omega (arith, a .loop .inv .low, fits t a .few))
     (returns-5 t)

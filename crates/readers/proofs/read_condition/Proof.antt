@@ -1,17 +1,14 @@
 -- A comparison, and two value expressions before it.
 use borrow.Author.Needs.{needs}
 use Prim.Native.Nat.{ℕ, _-_, _≤_}
-use mathlib.Core.Path.{_≡_, _∙_}
+use mathlib.Core.Path.{_∙_}
 use mathlib.Core.List.{List}
 use native.Mathlib.Omega.{arith}
 use Rattle.semantics.specs.Records.{Records, tokenAt}
-use Rattle.semantics.specs.FromTokens.{exprFromTokens}
 use Rattle.productions.specs.Noted.{Fitting, Rows}
 use Rattle.productions.proofs.Places.{At}
 use Rattle.productions.proofs.Noted.{fitting-fewer, noted-at, own-tokens, rows-fewer}
-use Rattle.readers.specs.Readings.{readingOf}
 use Rattle.readers.proofs.Onward.{compared-left, compared-none, condition-before, condition-beyond}
-use Rattle.readers.proofs.Turns.{operand-low}
 use Rattle.readers.proofs.read_condition.Statement.{statement}
 use Rattle.readers.proofs.read_condition.Tie as tie
 
@@ -50,25 +47,22 @@ module _ (c : tie.After-width) where
   operand-rows : (n : ℕ) → n ≤ start → (r : Records) → Rows r (rows begin) (size begin) → Rows r (rows begin) n
   operand-rows n h r p = rows-fewer r (rows begin) (size begin) n p (omega arith)
 
-right-low : (c : tie.After-known-told) → let w = c .before .before .before .before .before in c .before .right .given .0 .0 ≤ start w
-right-low c =
-    let told = c .before .before .before in
-    let w = told .before .before in
-    operand-low (rows (begin w)) (start w) _ (λ ts. readingOf (exprFromTokens ts)) (told .before .read-value .ensures) _ (told .told .ensures) _ (c .before .right .given .1)
+right-low : (c : tie.After-known-told) → let w = c .before .before .before .before in c .before .right .given .0 .0 ≤ start w
+right-low c = c .before .before .before .read-value .ensures .within _ (c .before .right .given .1)
 
 returns-3 : tie.Need-returns-3
 returns-3 c r p =
-    let told = c .before .before in
-    let w = told .before .before in
-    compared-none r _ _ _ (found w r p) (w .before .before .if1 .left) _ (told .told .ensures ∙ told .before .read-value .ensures .right r (operand-rows w _ (omega arith) r p)) (c .enum-told .given .1)
+    let x = c .before .before in
+    let w = x .before in
+    compared-none r _ _ _ (found w r p) (w .before .before .if1 .left) _ (x .read-value .ensures .right r (operand-rows w _ (omega arith) r p)) (c .enum-told .given .1)
 
 returns-4 : tie.Need-returns-4
 returns-4 c r p =
-    let k = c .before .before in
-    let told = k .before .before .before in
-    let w = told .before .before in
-    compared-left r _ _ _ (found w r p) (w .before .before .if1 .left) _ (told .told .ensures ∙ told .before .read-value .ensures .right r (operand-rows w _ (omega arith) r p))
-    _ (k .before .right .given .1) _ (c .told2 .ensures ∙ c .before .read-value2 .ensures .right r (operand-rows w _ (right-low k) r p))
+    let k = c .before in
+    let x = k .before .before .before in
+    let w = x .before in
+    compared-left r _ _ _ (found w r p) (w .before .before .if1 .left) _ (x .read-value .ensures .right r (operand-rows w _ (omega arith) r p))
+    _ (k .before .right .given .1) _ (c .read-value2 .ensures .right r (operand-rows w _ (right-low k) r p))
 
 pub read-condition-spec : {M : Type 1} → statement M
 read-condition-spec =
@@ -80,10 +74,9 @@ read-condition-spec =
     (λ c κs. search needs)
     own
     (λ c κs. operand c _ (omega arith))
-    (λ c κs. search needs)
     (λ c. search needs)
     (λ c. search needs)
     returns-3
-    (λ c κs. operand (c .before .before .before .before .before) _ (right-low c))
-    (λ c κs. search needs)
+    (λ c. search needs)
+    (λ c κs. operand (c .before .before .before .before) _ (right-low c))
     returns-4)
