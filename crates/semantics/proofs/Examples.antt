@@ -1,7 +1,6 @@
 -- "Proved examples": document 01's thirteen, in its order; what the definitions give beside what the document says, and one computed proof.
 use Prim.Native.Nat.{ℕ, _-_, _^_}
 use mathlib.Core.Bool.{cond}
-use mathlib.Core.Option.{Option, none, some}
 use mathlib.Core.Path.{_≡_, refl}
 use mathlib.Core.List.{List, [], _∷_, _++_, map}
 use lib.ListN.{replicate}
@@ -13,14 +12,14 @@ use Rattle.slices.specs.Bytes.{bytesValue, littleEndian}
 use Rattle.semantics.specs.Check.{Checked, checked, condition, judged}
 use Rattle.semantics.specs.Code.{code, commandOf, exprCode, idxCode}
 use Rattle.semantics.specs.Decode.{Reading, decode}
-use Rattle.semantics.specs.Evaluate.{Lent, Verdict, evaluated, evaluatedTree, initial}
+use Rattle.semantics.specs.Evaluate.{Verdict, evaluated, evaluatedTree, initial}
 use Rattle.semantics.specs.Evaluation.{Amounts, Env, Outcome, amount, err, eval, evalArith, index, ok, oracle}
 use Rattle.semantics.specs.FromTokens.{comparison, exprFromTokens, exprWithin, fromTokens, head, headForm, idxFromTokens, idxHead, idxHeadForm, idxWithin}
 use Rattle.semantics.specs.Oracle.{oracleRule, oracles, terminals}
 use Rattle.semantics.specs.Parse.{instructions, parse}
 use Rattle.semantics.specs.Refusals.{Refusal, numbered}
 use Rattle.semantics.specs.Token.{Token, bytes8, exprForm, form, idxForm, op, verified}
-use Rattle.semantics.specs.Trees.{Arith, BinOp, CmpOp, Expr, IdxExpr, IdxOp, UnOp}
+use Rattle.semantics.specs.Trees.{AmountList, Arith, BinOp, CmpOp, Expr, IdxExpr, IdxOp, UnOp}
 
 abbrev minus : ℕ → ℤ
 minus n = negℤ (pos n)
@@ -29,12 +28,12 @@ minus n = negℤ (pos n)
 abbrev refused : Refusal → List ℤ
 refused r = pos (numbered r .number) ∷ signedOf (numbered r .first) ∷ signedOf (numbered r .second) ∷ []
 
--- one input, with explicit amounts of 2^63, and no output
+-- two inputs, with explicit amounts of 2^63 and 7, and no output
 abbrev env : ℕ → Env
 env current =
     let nothing : Amounts = record { numbers = []; marks = [] } in
-    let one : Amounts = record { numbers = 2 ^ 63 ∷ []; marks = 1 ∷ [] } in
-    record { spent = one; outputs = nothing; issued = one; reissued = one; current = current }
+    let two : Amounts = record { numbers = 2 ^ 63 ∷ 7 ∷ []; marks = 1 ∷ 1 ∷ [] } in
+    record { spent = two; outputs = nothing; issued = two; reissued = two; current = current }
 
 abbrev const : ℤ → Expr
 const z = Expr.Const (bitsOf z)
@@ -49,14 +48,6 @@ valueOf e = shown (eval (env 0) e (record { checks = 0; written = []; left = [] 
 
 abbrev by : BinOp → ℤ → ℤ → List ℤ
 by o x y = valueOf (Expr.Binary o (const x) (const y))
-
--- of the current index less 1
-abbrev shownIndex : Option ℤ → List ℤ
-shownIndex (some z) = z ∷ []
-shownIndex none = refused Refusal.IndexStep
-
-abbrev lessOne : ℕ → List ℤ
-lessOne current = shownIndex (index current (IdxExpr.Op IdxOp.Sub IdxExpr.CurrIdx (IdxExpr.Const 1)))
 
 -- of a token list: the tail's start, with the code
 abbrev shownReading : Reading → List ℤ
@@ -75,14 +66,18 @@ abbrev shownCheck : Checked → List ℤ
 shownCheck (Checked.Refused r) = refused r
 shownCheck (Checked.Passed tokens oracles) = pos tokens ∷ pos oracles ∷ []
 
-abbrev lent : Lent
-lent = record { env = env 0; witness = []; ends = []; buffer = [] }
-
 abbrev eq : Expr → Expr → List ℕ
 eq x y = code (Arith.Compare CmpOp.Eq x y)
 
+abbrev verdict : List ℕ → ℕ → List ℤ
+verdict c current = shownVerdict (evaluated c (record { env = env current; witness = []; ends = []; buffer = [] }) .answer .verdict)
+
 abbrev five : Expr
 five = Expr.Const 5
+
+-- the amount of the input before the current one is that of input 0
+abbrev isBefore : List ℕ
+isBefore = eq (Expr.Lookup AmountList.Input (IdxExpr.Op IdxOp.Sub IdxExpr.CurrIdx (IdxExpr.Const 1))) (const (minus (2 ^ 63)))
 
 abbrev key : List ℕ
 key = replicate 32 0
@@ -90,7 +85,7 @@ key = replicate 32 0
 pub examples : List (List ℤ × List ℤ)
 examples =
     -- 1
-    (shownVerdict (evaluated (eq five five) lent .answer .verdict), pos 1 ∷ []) ∷ (shownCheck (checked (eq five five)), pos 3 ∷ pos 0 ∷ [])
+    (verdict (eq five five) 0, pos 1 ∷ []) ∷ (shownCheck (checked (eq five five)), pos 3 ∷ pos 0 ∷ [])
     -- 2 to 4
     ∷ (by BinOp.Div (minus 7) (pos 2), minus 4 ∷ []) ∷ (by BinOp.Mod (minus 7) (pos 2), pos 1 ∷ [])
     ∷ (by BinOp.Div (pos 7) (minus 2), minus 3 ∷ []) ∷ (by BinOp.Mod (pos 7) (minus 2), pos 1 ∷ [])
@@ -114,7 +109,7 @@ examples =
     ∷ (shownCheck (checked (eq (Expr.Binary BinOp.Add five (Expr.PriceOracle1 key 0)) five)), pos 5 ∷ pos 0 ∷ pos 0 ∷ [])
     ∷ (shownCheck (checked (eq (Expr.PriceOracle1W key 0) (Expr.PriceOracle1 key 0))), pos 4 ∷ pos 0 ∷ pos 0 ∷ [])
     -- 13
-    ∷ (lessOne 0, pos 41 ∷ pos 0 ∷ pos 0 ∷ []) ∷ (lessOne 1, pos 0 ∷ []) ∷ []
+    ∷ (verdict isBefore 0, pos 41 ∷ pos 0 ∷ pos 0 ∷ []) ∷ (verdict isBefore 1, pos 1 ∷ []) ∷ []
 
 pub examples-right : map (λ (e : List ℤ × List ℤ). e .0) examples ≡ map (λ (e : List ℤ × List ℤ). e .1) examples
 unfolding examples checkedAdd checkedNeg checkedDiv checkedRem idxSub littleEndian bytesValue idxForm exprForm form idxCode exprCode code commandOf instructions parse idxHeadForm idxHead idxWithin idxFromTokens headForm head exprWithin exprFromTokens comparison fromTokens terminals oracleRule oracles index amount oracle eval evalArith decode initial judged condition checked evaluatedTree evaluated
