@@ -1,6 +1,9 @@
 -- "0 is success", "A refusal is a number with its data; place and data are 0 where none is named": each call's answer in document 01's numbers.
 use Prim.Native.Nat.{ℕ}
 use mathlib.Core.Bool.{cond}
+use mathlib.Core.Path.{_≡_}
+use mathlib.Core.List.{List}
+use lib.ListN.{length, take}
 use Rattle.semantics.specs.declared.Checked.{Checked}
 use Rattle.semantics.specs.declared.Decoded.{Decoded}
 use Rattle.semantics.specs.declared.Evaluated.{Evaluated}
@@ -36,3 +39,7 @@ writeAnswer (Written.Refused r) = record { number = numbered r .number; place = 
 abbrev pub decodeAnswer : Decoded → DecodeAnswer
 decodeAnswer (Decoded.Code bytes start) = record { number = 0; place = 0; «code_bytes» = bytes; start = start }
 decodeAnswer (Decoded.Refused r) = record { number = numbered r .number; place = numbered r .first; «code_bytes» = 0; start = 0 }
+
+-- the struct that Decode gives back says that the code b was accepted, with the tail's start n, and b stands at the front of the buffer
+abbrev pub AnswerAccepts : DecodeAnswer → List ℕ → List ℕ → ℕ → Type 0
+AnswerAccepts r buffer b n = (r .number ≡ 0) × (r .«code_bytes» ≡ length b) × (r .start ≡ n) × (take (length b) buffer ≡ b)

@@ -13,7 +13,7 @@ ghost use Rattle.semantics.specs.Meaning.{CallUnambiguous};
 ghost use Rattle.semantics.specs.Write.{Writes, writing, written};
 ghost use Rattle.amounts.specs.Lists.{envOf};
 ghost use Rattle.semantics.specs.Records.{recordsOf};
-ghost use Rattle.answers.specs.Answers.{checkAnswer, decodeAnswer, evaluateAnswer, writeAnswer};
+ghost use Rattle.answers.specs.Answers.{AnswerAccepts, checkAnswer, decodeAnswer, evaluateAnswer, writeAnswer};
 
 // Check: `code` is lent and only read. Refusals 1 to 5.
 #[no_mangle]
@@ -80,7 +80,7 @@ pub extern "C" fn covenant_write(
 }
 
 // Decode: of what is lent only `code` is written, the bytes reported at its front. There are as many records as kinds.
-// Refusals 10, 9, 7, 11; a refusal writes nothing. The third promise is demand 3.
+// Refusals 10, 9, 7, 11; a refusal writes nothing. The third promise is demand 3, of the struct that is given back.
 #[no_mangle]
 pub extern "C" fn covenant_decode(
     kinds: &[u8],
@@ -91,7 +91,7 @@ pub extern "C" fn covenant_decode(
 ) -> DecodeAnswer
     ensures { λ r. ⌜ r ≡ decodeAnswer (decoded (recordsOf (now (kinds .entry)) (now (numbers .entry)) (now (places .entry)) (now (keys .entry))) (now (code .entry)) .answer) ⌝ }
     ensures { λ r. ⌜ now (code .exit) ≡ decoded (recordsOf (now (kinds .entry)) (now (numbers .entry)) (now (places .entry)) (now (keys .entry))) (now (code .entry)) .buffer ⌝ }
-    ensures { λ r. ⌜ CallUnambiguous (recordsOf (now (kinds .entry)) (now (numbers .entry)) (now (places .entry)) (now (keys .entry))) (now (code .entry)) (decoded (recordsOf (now (kinds .entry)) (now (numbers .entry)) (now (places .entry)) (now (keys .entry))) (now (code .entry)) .answer) (now (code .exit)) ⌝ }
+    ensures { λ r. ⌜ CallUnambiguous (recordsOf (now (kinds .entry)) (now (numbers .entry)) (now (places .entry)) (now (keys .entry))) (now (code .entry)) (AnswerAccepts r (now (code .exit))) ⌝ }
 {
     answers::decode_answer(decoder::decode(kinds, numbers, places, keys, code))
 }

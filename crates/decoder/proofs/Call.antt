@@ -19,7 +19,7 @@ use Rattle.semantics.specs.FromTokens.{Found, found, fromTokens, nothing}
 use Rattle.semantics.specs.Evaluate.{over}
 use Rattle.semantics.specs.Records.{Records, tokenAt, tokens, unsound}
 use Rattle.semantics.specs.Decode.{Decoding, Reading, decode, decoded, decodedAs, reading, unlessRuled}
-use Rattle.semantics.specs.Meaning.{CallUnambiguous}
+use Rattle.semantics.specs.Meaning.{CallAccepts, CallUnambiguous}
 use Rattle.semantics.proofs.Canon.{canon}
 use Rattle.semantics.proofs.Find.{reader-picked, reader-sound}
 use Rattle.semantics.proofs.FromTokens.{arith-reader}
@@ -118,10 +118,10 @@ module _ (r : Records) (old : List ℕ) (ready : Ready r old) (bytes : Bytes (r 
 -- 10, 9, 7, and then
 module _ (r : Records) (old : List ℕ) (bytes : Bytes (r .keys)) (wide : All (λ n. n < 2 ^ 64) (r .numbers)) where
   abbrev pub Owed : Decoded → List ℕ → Type 0
-  Owed d after = (_≡_ {A = Decoding} (record { answer = d; buffer = after }) (decoded r old)) × CallUnambiguous r old d after
+  Owed d after = (_≡_ {A = Decoding} (record { answer = d; buffer = after }) (decoded r old)) × CallUnambiguous r old (CallAccepts d after)
 
   owed : (d : Decoded) (after : List ℕ) → _≡_ {A = Decoding} (record { answer = d; buffer = after }) (decoded r old) → Owed d after
-  owed d after e = (e, subst (λ (x : Decoding). CallUnambiguous r old (x .answer) (x .buffer)) (sym e) (call-unambiguous r old bytes wide))
+  owed d after e = (e, subst (λ (x : Decoding). CallUnambiguous r old (CallAccepts (x .answer) (x .buffer))) (sym e) (call-unambiguous r old bytes wide))
 
   pub owed-10 : maxTokens < length (r .kinds) → Owed (Decoded.Refused Refusal.TooManyRecords) old
   unfolding decoded

@@ -14,7 +14,7 @@ use semantics::MAX_TOKENS;
 use semantics::Refusal;
 ghost use mathlib.Core.Path.{_≡_};
 ghost use Rattle.semantics.specs.Decode.{decode, decoded, decodedAs};
-ghost use Rattle.semantics.specs.Meaning.{CallUnambiguous};
+ghost use Rattle.semantics.specs.Meaning.{CallAccepts, CallUnambiguous};
 ghost use Rattle.semantics.specs.Records.{recordsOf, tokens};
 ghost use Rattle.decoder.specs.Sound.{Ready};
 
@@ -57,7 +57,7 @@ pub fn decode(
         (recordsOf (now (kinds .entry)) (now (numbers .entry)) (now (places .entry)) (now (keys .entry))) (now (code .entry)) ⌝ }
     ensures { λ r. ⌜ CallUnambiguous
         (recordsOf (now (kinds .entry)) (now (numbers .entry)) (now (places .entry)) (now (keys .entry)))
-        (now (code .entry)) r (now (code .exit)) ⌝ }
+        (now (code .entry)) (CallAccepts r (now (code .exit))) ⌝ }
 {
     if MAX_TOKENS < kinds.len() {
         return Decoded::Refused(Refusal::TooManyRecords);

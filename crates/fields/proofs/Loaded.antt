@@ -11,7 +11,7 @@ use lib.Dec.{leb}
 use Rattle.slices.specs.Bytes.{Bytes}
 use Rattle.semantics.specs.Code.{maxTokens}
 use Rattle.semantics.specs.Decode.{Decoding, decoded}
-use Rattle.semantics.specs.Meaning.{CallUnambiguous}
+use Rattle.semantics.specs.Meaning.{CallAccepts, CallUnambiguous}
 use Rattle.semantics.specs.declared.Decoded.{Decoded}
 use Rattle.semantics.specs.declared.Refusal.{Refusal}
 use Rattle.semantics.specs.Records.{Records}
@@ -23,6 +23,7 @@ use Rattle.records.proofs.Stored.{stored, stored-kept}
 use Rattle.answers.specs.declared.DecodeAnswer.{DecodeAnswer}
 use Rattle.answers.specs.declared.WriteAnswer.{WriteAnswer}
 use Rattle.answers.specs.Answers.{decodeAnswer, writeAnswer}
+use Rattle.answers.proofs.Accepted.{answer-unambiguous}
 use Rattle.fields.specs.TokenRecords.{DecodesRecords, Loaded, WritesFields, loadable, writable}
 
 -- ---- Decode
@@ -38,7 +39,7 @@ module _ (rs : List TokenRecord) (keys old new : List ℕ) (r : DecodeAnswer) wh
 
   pub decodes : (kinds numbers places : List ℕ) (d : Decoded) (count : ℕ) → length rs ≡ count → count ≤ maxTokens → Loaded rs kinds numbers places
       → record { answer = d; buffer = new } ≡ decoded (record { kinds = take count kinds; numbers = take count numbers; places = take count places; keys = keys }) old
-      → CallUnambiguous (record { kinds = take count kinds; numbers = take count numbers; places = take count places; keys = keys }) old d new
+      → CallUnambiguous (record { kinds = take count kinds; numbers = take count numbers; places = take count places; keys = keys }) old (CallAccepts d new)
       → r ≡ decodeAnswer d → DecodesRecords rs keys old new r
   decodes kinds numbers places d count size h l e u f =
       let few : loadable (length rs) ≡ count = rw size (loaded-few count h) in
@@ -46,11 +47,12 @@ module _ (rs : List TokenRecord) (keys old new : List ℕ) (r : DecodeAnswer) wh
       let m : take count numbers ≡ numbersOf rs = subst (λ (m : ℕ). take m numbers ≡ take m (numbersOf rs)) few (l .numbersLoaded) ∙ all (λ t. t .number) in
       let p : take count places ≡ placesOf rs = subst (λ (m : ℕ). take m places ≡ take m (placesOf rs)) few (l .placesLoaded) ∙ all (λ t. t .place) in
       let whole : record { answer = d; buffer = new } ≡ decoded (fieldsOf rs keys) old = e ∙ (λ i. decoded (record { kinds = k i; numbers = m i; places = p i; keys = keys }) old) in
-      let mine : CallUnambiguous (fieldsOf rs keys) old d new = transport (λ i. CallUnambiguous (record { kinds = k i; numbers = m i; places = p i; keys = keys }) old d new) u in
+      let mine : CallUnambiguous (fieldsOf rs keys) old (CallAccepts d new) =
+      transport (λ i. CallUnambiguous (record { kinds = k i; numbers = m i; places = p i; keys = keys }) old (CallAccepts d new)) u in
       record {
         answer = f ∙ ap (λ (x : Decoding). decodeAnswer (x .answer)) whole;
         buffer = ap (λ (x : Decoding). x .buffer) whole;
-        unambiguous = subst (λ (x : Decoded). CallUnambiguous (fieldsOf rs keys) old x new) (ap (λ (x : Decoding). x .answer) whole) mine;
+        unambiguous = rw f (answer-unambiguous (fieldsOf rs keys) old d new mine);
       }
     where
       all : (g : TokenRecord → ℕ) → take count (map g rs) ≡ map g rs

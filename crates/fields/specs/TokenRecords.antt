@@ -11,15 +11,15 @@ use Rattle.semantics.specs.Meaning.{CallUnambiguous}
 use Rattle.semantics.specs.Write.{Writes, writing, written}
 use Rattle.records.specs.declared.TokenRecord.{TokenRecord}
 use Rattle.records.specs.Fields.{fieldsOf, kindsOf, numbersOf, placesOf, recordsFrom}
-use Rattle.answers.specs.Answers.{decodeAnswer, writeAnswer}
+use Rattle.answers.specs.Answers.{AnswerAccepts, decodeAnswer, writeAnswer}
 use Rattle.answers.specs.declared.DecodeAnswer.{DecodeAnswer}
 use Rattle.answers.specs.declared.WriteAnswer.{WriteAnswer}
 
--- what Decode gives back for these records, and the code buffer then; and demand 3, of this call's own answer
+-- what Decode gives back for these records, and the code buffer then; and demand 3, of the struct given back
 pub record DecodesRecords (rs : List TokenRecord) (keys old new : List ℕ) (r : DecodeAnswer) : Type 0 where
   pub answer : r ≡ decodeAnswer (decoded (fieldsOf rs keys) old .answer)
   pub buffer : new ≡ decoded (fieldsOf rs keys) old .buffer
-  pub unambiguous : CallUnambiguous (fieldsOf rs keys) old (decoded (fieldsOf rs keys) old .answer) new
+  pub unambiguous : CallUnambiguous (fieldsOf rs keys) old (AnswerAccepts r new)
 
 -- what Write gives back for these records, and what records and keys are then; the records beyond those reported are kept
 pub record WritesRecords (code : List ℕ) (old new : List TokenRecord) (oldKeys newKeys : List ℕ) (r : WriteAnswer) : Type 0 where

@@ -1,5 +1,6 @@
 -- Laws of the definitions in specs/, one file a subject.
 pub mod Tests
+pub mod Refusals
 pub mod Encodable
 pub mod Instructions
 pub mod Machine

@@ -167,5 +167,5 @@ module _ (r : Records) (old : List ℕ) (few : length (r .kinds) ≤ maxTokens) 
 
 -- DEMAND 3, of the call
 pub call-unambiguous : (r : Records) (old : List ℕ) → Bytes (r .keys) → All (λ n. n < 2 ^ 64) (r .numbers)
-    → CallUnambiguous r old (decoded r old .answer) (decoded r old .buffer)
+    → CallUnambiguous r old (CallAccepts (decoded r old .answer) (decoded r old .buffer))
 call-unambiguous r old bytes wide few all full = call-all r old few all full bytes wide

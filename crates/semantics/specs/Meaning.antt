@@ -65,11 +65,11 @@ DecodeAccepts ts b n = decode ts ≡ Reading.accepted b n
 abbrev pub ListUnambiguous : List Token → Type 0
 ListUnambiguous ts = length ts ≤ maxTokens → All Sound ts → Unambiguous ts (DecodeAccepts ts)
 
--- and a call on records: its answer and what its code buffer holds then
+-- "a buffer is full-sized if Decode's 7 lets it pass": what a call owes on up to 1,024 sound records, with such a buffer
+abbrev pub CallUnambiguous : Records → List ℕ → (List ℕ → ℕ → Type 0) → Type 0
+CallUnambiguous r old Accepts =
+    length (r .kinds) ≤ maxTokens → unsound r ≡ none → maxCode ≤ length old → Unambiguous (tokens r) Accepts
+
+-- a call's own answer, with what its code buffer holds then
 abbrev pub CallAccepts : Decoded → List ℕ → List ℕ → ℕ → Type 0
 CallAccepts answer buffer b n = (answer ≡ Decoded.Code (length b) n) × (take (length b) buffer ≡ b)
-
--- "a buffer is full-sized if Decode's 7 lets it pass": what a call on up to 1,024 sound records, with such a buffer, owes of its own answer
-abbrev pub CallUnambiguous : Records → List ℕ → Decoded → List ℕ → Type 0
-CallUnambiguous r old answer new =
-    length (r .kinds) ≤ maxTokens → unsound r ≡ none → maxCode ≤ length old → Unambiguous (tokens r) (CallAccepts answer new)
