@@ -1,5 +1,6 @@
--- Condition code has at most nine bytes for each token of the form, so a form of up to 1,024 tokens is that of code of up to 9,216 bytes.
-use Prim.Native.Nat.{_*_, _≤_}
+-- How long the code of a condition is, by the tokens of its form: up to 1,024 tokens have at most 5,120 bytes. 1,024 can have as many: 512 constants that
+-- operations of one token join, one of them inverted.
+use Prim.Native.Nat.{ℕ, _+_, _*_, _/_, _%_, _≤_}
 use mathlib.Core.Path.{_≡_, ap}
 use mathlib.Core.List.{List}
 use native.Mathlib.Omega.{arith}
@@ -11,13 +12,17 @@ use Rattle.semantics.specs.Trees.{Arith, Expr, IdxExpr}
 use Rattle.semantics.proofs.Encodable.{Encodable, ExprEncodable}
 use Rattle.semantics.proofs.Heads.{binOp-long, cmp-long, idxOp-long, list-long, unOp-long}
 
-idx-size : (e : IdxExpr) → length (idxCode e) ≤ 9 * length (idxForm e)
+-- ten bytes for two tokens, a constant of nine bytes and an operation of one; nine for an odd one
+abbrev pub mostCode : ℕ → ℕ
+mostCode tokens = 10 * (tokens / 2) + 9 * (tokens % 2)
+
+idx-size : (e : IdxExpr) → length (idxCode e) ≤ mostCode (length (idxForm e))
 unfolding idxCode idxForm
 idx-size (IdxExpr.Const n) = omega (arith, length-littleEndian 8 n)
 idx-size IdxExpr.CurrIdx = omega arith
 idx-size (IdxExpr.Op o x y) = simp length-append (omega (arith, idx-size x, idx-size y, idxOp-long o))
 
-expr-size : (e : Expr) → ExprEncodable e → length (exprCode e) ≤ 9 * length (exprForm e)
+expr-size : (e : Expr) → ExprEncodable e → length (exprCode e) ≤ mostCode (length (exprForm e))
 unfolding exprCode exprForm
 expr-size (Expr.Const n) w = omega (arith, length-littleEndian 8 n)
 expr-size Expr.CurrInputIdx w = omega arith
@@ -27,10 +32,10 @@ expr-size (Expr.Unary o x) w = simp length-append (omega (arith, expr-size x w, 
 expr-size (Expr.PriceOracle1 key time) w = simp length-append (omega (arith, length-littleEndian 8 time, w .0))
 expr-size (Expr.PriceOracle1W key time) w = simp length-append (omega (arith, length-littleEndian 8 time, w .0))
 
-pub code-size : (c : Arith) → Encodable c → length (code c) ≤ 9 * length (form c)
+pub code-size : (c : Arith) → Encodable c → length (code c) ≤ mostCode (length (form c))
 unfolding code form
 code-size (Arith.Compare o x y) w = simp length-append (omega (arith, expr-size x (w .0), expr-size y (w .1), cmp-long o))
 
--- so code whose form has few enough tokens is short enough
-pub code-fits : (c : Arith) (ts : List Token) → Encodable c → form c ≡ ts → length ts ≤ maxTokens → length (code c) ≤ maxCode
+-- 5,120 bytes at 1,024 tokens
+pub code-fits : (c : Arith) (ts : List Token) → Encodable c → form c ≡ ts → length ts ≤ maxTokens → length (code c) ≤ 5 * maxTokens
 code-fits c ts w e few = omega (arith, code-size c w, ap length e)

@@ -46,8 +46,8 @@ accepted-by nothing b n e = let z : _≡_ {A = ℕ} 0 1 = cc in absurd (omega ar
 -- a form of few tokens is that of short code
 short : (b : List ℕ) (s : List Token) → length s ≤ maxTokens → HasForm b s → length b ≤ maxCode
 short b s l f =
-    rw (← code-parse b (f .tree) (f .bytes) (f .wellFormed))
-    (code-fits (f .tree) s (parse-encodable b (f .tree) (f .bytes) (f .wellFormed)) (f .is) l)
+    let few = code-fits (f .tree) s (parse-encodable b (f .tree) (f .bytes) (f .wellFormed)) (f .is) l in
+    rw (← code-parse b (f .tree) (f .bytes) (f .wellFormed)) (omega (arith, few))
 
 -- such a tail is found
 form-found : (ts : List Token) (n : ℕ) (b : List ℕ) (f : FormAt ts n b) → fromTokens (reverse ts) ≡ found (canon (f .form .tree)) (reverse (take n ts))

@@ -1,13 +1,14 @@
 -- What the calls know of a condition that 1 to 5 let pass.
-use Prim.Native.Nat.{ℕ, _<_, _≤_}
+use Prim.Native.Nat.{ℕ, _*_, _<_, _≤_}
 use mathlib.Core.Bool.{Bool, true, false, cond}
 use mathlib.Core.Option.{Option, none, some}
-use mathlib.Core.Path.{_≡_, refl}
+use mathlib.Core.Path.{_≡_, refl, ap}
+use mathlib.Core.Logic.{_⊎_, inl, inr}
 use mathlib.Core.List.{List, [], _∷_}
 use native.Mathlib.Omega.{arith}
-use borrow.Author.Tests.{leb-true, lt-leb}
+use borrow.Author.Tests.{le-leb, leb-true, lt-leb, ltb-false, ltb-true}
 use lib.ListN.{length}
-use lib.Dec.{leb}
+use lib.Dec.{leb, ltb}
 use Rattle.slices.specs.Bytes.{Bytes}
 use Rattle.semantics.specs.Check.{Checked, Condition, answered, checked, condition, firstOf, judged, judgedParsed, passedUnless, unless}
 use Rattle.semantics.specs.Code.{code, maxCode, maxTokens}
@@ -18,6 +19,7 @@ use Rattle.semantics.specs.Token.{form}
 use Rattle.semantics.specs.Trees.{Arith}
 use Rattle.semantics.proofs.Encodable.{Encodable}
 use Rattle.semantics.proofs.CodeParse.{code-parse, parse-encodable}
+use Rattle.semantics.proofs.CodeSize.{code-fits}
 
 pub record Passing (b : List ℕ) (a : Arith) : Type 0 where
   pub encodable : Encodable a
@@ -85,3 +87,20 @@ too-long b h = rw (lt-leb (length b) maxCode h)
 pub too-many : (a : Arith) → maxTokens < length (form a) → judged a ≡ Condition.refused Refusal.TooManyTokens
 unfolding judged
 too-many a h = rw (lt-leb (length (form a)) maxTokens h)
+
+-- More than 5,120 bytes are too long for a condition of up to 1,024 tokens: what 1 lets pass of them, 2 or 3 refuses.
+pub long-code : (b : List ℕ) → Bytes b → 5 * maxTokens < length b → length b ≤ maxCode
+    → ((offset : ℕ) × (condition b ≡ Condition.refused (Refusal.NotWellFormed offset))) ⊎ (condition b ≡ Condition.refused Refusal.TooManyTokens)
+unfolding condition
+long-code b bytes long within = rw (le-leb (length b) maxCode within) (by (parse b) refl)
+  where
+    by : (p : Parsed) → parse b ≡ p
+        → ((offset : ℕ) × (judgedParsed p ≡ Condition.refused (Refusal.NotWellFormed offset))) ⊎ (judgedParsed p ≡ Condition.refused Refusal.TooManyTokens)
+    by (Parsed.malformed offset) e = inl (offset, refl)
+    by (Parsed.tree a) e = inr (too-many a (over (ltb maxTokens (length (form a))) refl))
+      where
+        over : (t : Bool) → ltb maxTokens (length (form a)) ≡ t → maxTokens < length (form a)
+        over true h = ltb-true maxTokens (length (form a)) h
+        over false h =
+            let few = code-fits a (form a) (parse-encodable b a bytes e) refl (ltb-false maxTokens (length (form a)) h) in
+            absurd (omega (arith, few, long, ap length (code-parse b a bytes e)))
