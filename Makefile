@@ -3,7 +3,7 @@
 .PHONY: run test edits compare bench vectors toolchain listed archive
 
 run: toolchain
-	@log=$$(mktemp) && { rt check examples >"$$log" 2>&1 || { cat "$$log"; rm -f "$$log"; exit 1; }; rm -f "$$log"; }
+	@tests/prove.sh check examples
 	@target/bin/examples
 
 test: toolchain listed
@@ -15,7 +15,7 @@ edits: toolchain
 
 # target/staticlib/libcovenant.a, for the programs that link it
 archive: toolchain
-	@log=$$(mktemp) && { rt staticlib covenant >"$$log" 2>&1 || { cat "$$log"; rm -f "$$log"; exit 1; }; rm -f "$$log"; }
+	@tests/prove.sh staticlib covenant
 
 # a million generated cases, both sides in one process
 compare: archive
@@ -31,7 +31,7 @@ vectors:
 	tests/vectors/generate.py crates/vectors/data/cases
 
 toolchain:
-	@command -v rt >/dev/null 2>&1 || { echo "rt is not on the PATH: install the Rattle kit (rattle-kit-5), which has rt, the prover and LLVM" >&2; exit 2; }
+	@command -v rt >/dev/null 2>&1 || { echo "rt is not on the PATH: install the Rattle kit, which has rt, the prover and LLVM" >&2; exit 2; }
 
 # A folder of crates/ that crates.txt does not list would not be proved.
 listed:

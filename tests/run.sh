@@ -6,7 +6,7 @@ cd "$(dirname "$0")/.."
 log=$(mktemp)
 trap 'rm -f "$log" "$log.status"' EXIT
 rt fmt --check
-{ rt ci 2>&1; echo $? >"$log.status"; } | tee "$log"
+{ tests/prove.sh ci; echo $? >"$log.status"; } | tee "$log"
 test "$(cat "$log.status")" = 0
 make --no-print-directory -s archive
 tests/boundary/run.sh
