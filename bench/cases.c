@@ -1,21 +1,9 @@
 /* cases FILE: the most stack that each call takes over the cases of tests/vectors/generate.py, most of which are refused somewhere; the file's format is told there. */
+#include "cases.h"
 #include "covenant.h"
 #include "stack.h"
-#include <stdio.h>
-#include <stdlib.h>
-#include <string.h>
 
-enum { CALLS = 6, CHECK = 1, EVALUATE, WRITE, DECODE, MOST = 1 << 16 };
-
-/* The case at hand: its parts, as copies that are aligned. */
-static struct { uint64_t bytes[MOST / 8]; size_t count; } part[16];
-
-static const uint8_t *u8(int k) { return (const uint8_t *)part[k].bytes; }
-static const uint32_t *u32(int k) { return (const uint32_t *)part[k].bytes; }
-static const uint64_t *u64(int k) { return part[k].bytes; }
-static size_t n8(int k) { return part[k].count; }
-static size_t n32(int k) { return part[k].count / 4; }
-static size_t n64(int k) { return part[k].count / 8; }
+enum { CALLS = 6 };
 
 /* What is written to. */
 static uint8_t out[MOST], kinds[MOST], keys[MOST];
@@ -45,35 +33,25 @@ static void decode_records(void *p) { *(covenant_decoded *)p = covenant_decode_r
 
 static void (*const call[CALLS])(void *) = {check, evaluate, write, decode, write_records, decode_records};
 
-static uint32_t word(const uint8_t *b) { return b[0] | (uint32_t)b[1] << 8 | (uint32_t)b[2] << 16 | (uint32_t)b[3] << 24; }
-
-static void take_apart(const uint8_t *body) {
-    size_t at = 2 + 4 * (size_t)body[1];
-    for (int k = 0; k < body[1]; k++) {
-        size_t end = word(body + 2 + 4 * k);
-        part[k].count = end - at;
-        memcpy(part[k].bytes, body + at, end - at);
-        at = end;
-    }
-    if (body[0] == DECODE)
-        for (size_t i = 0; i < n8(0); i++) records[i] = (covenant_record){u8(0)[i], i < n64(1) ? u64(1)[i] : 0, i < n32(2) ? u32(2)[i] : 0};
+/* The records of a case of Decode; what is not lent is 0. */
+static void lend_records(void) {
+    for (size_t i = 0; i < n8(0); i++) records[i] = (covenant_record){u8(0)[i], i < n64(1) ? u64(1)[i] : 0, i < n32(2) ? u32(2)[i] : 0};
 }
 
 int main(int argc, char **argv) {
-    static uint8_t body[16 * MOST];
-    uint8_t length[4];
     size_t most[CALLS] = {0};
     union { covenant_checked c; covenant_evaluated e; covenant_written w; covenant_decoded d; } answer;
     FILE *f = argc > 1 ? fopen(argv[1], "rb") : 0;
-    while (f && fread(length, 1, 4, f) == 4 && word(length) <= sizeof body && fread(body, 1, word(length), f) == word(length)) {
-        take_apart(body);
+    int of = -1;
+    while (f && (of = next_case(f)) > 0) {
+        if (of == DECODE) lend_records();
         for (int c = 0; c < CALLS; c++) {
             /* the calls over records have the cases of Write and of Decode */
-            if ((c < DECODE ? c + 1 : c - 1) != body[0]) continue;
+            if ((c < DECODE ? c + 1 : c - 1) != of) continue;
             size_t used = stack_used(call[c], &answer);
             if (used > most[c]) most[c] = used;
         }
     }
     for (int c = 0; c < CALLS; c++) printf("%zu%c", most[c], c + 1 < CALLS ? ' ' : '\n');
-    return !f || !feof(f);
+    return of != 0;
 }

@@ -16,6 +16,9 @@ SHAPES, REFUSED = os.path.join(OUT, "shapes"), os.path.join(OUT, "refused")
 CASES = os.path.join(ROOT, "crates", "vectors", "data", "cases")
 UNIT_BYTES, UNIT_MS = 512 << 10, 200
 SLOTS = 256  # of a list of amounts, for the table of memory
+LONGER = 4096  # tokens of a condition that the tables of memory look ahead to, with as many code bytes and oracle terminals in proportion
+# bytes of the calls' own arrays for each token: operands of 8 and 8; marks of 2 and 1; a row of 1; the fields of a record, 1, 8 and 4
+ARRAYS = {"Check": 0, "Evaluate": 16, "Write": 3, "Decode": 1, "Write, records": 16, "Decode, records": 14}
 CALLS = ["Check", "Evaluate", "Write", "Decode"]
 SIZES = [12, 100, 256, 512, 1024]
 STACKS = CALLS + ["Write, records", "Decode, records"]
@@ -34,9 +37,10 @@ def build():
             f.write(run(sys.executable, os.path.join(ROOT, "bench", "shapes.py"), *words))
     own = os.path.join(OUT, "memory.o")
     run("gcc", "-O3", "-fno-builtin", "-fno-tree-loop-distribute-patterns", "-c", os.path.join(ROOT, "bench", "memory.c"), "-o", own)
-    for program in ("calls", "cases"):
-        sources = [os.path.join(ROOT, "bench", f) for f in (program + ".c", "stack.c")]
-        run("gcc", "-O2", "-Wall", "-I" + os.path.join(ROOT, "include"), *sources, own, LIB, "-o", os.path.join(OUT, program))
+    for folder, program in (("bench", "calls"), ("bench", "cases"), (os.path.join("tests", "boundary"), "frames")):
+        sources = [os.path.join(ROOT, f) for f in (os.path.join(folder, program + ".c"), os.path.join("bench", "stack.c"))]
+        places = ["-I" + os.path.join(ROOT, *d) for d in (("include",), ("bench",), ("tests", "vectors"))]
+        run("gcc", "-O2", "-Wall", *places, *sources, own, LIB, "-o", os.path.join(OUT, program))
 
 
 def header(name):
@@ -105,7 +109,22 @@ def paragraph(text):
     return textwrap.wrap(text, 160) + [""]
 
 
-def memory(rows, refused, cases):
+def lent(code, tokens, oracles):
+    """For each call what the caller provides for the largest condition."""
+    keys = ("%d keys" % oracles, oracles * 32)
+    slices, structs = ("%d records in three slices" % tokens, tokens * 13), ("%d records" % tokens, tokens * 24)
+    return {
+        "Check": [("code", code)],
+        "Evaluate": [("code", code), ("checks of %d oracle terminals" % oracles, 112 * oracles), ("their witness and its ends", (80 + 12) * oracles),
+                     ("four lists of %d slots" % SLOTS, 4 * SLOTS * 9)],
+        "Write": [("code", code), slices, keys],
+        "Decode": [slices, keys, ("code", code)],
+        "Write, records": [("code", code), structs, keys],
+        "Decode, records": [structs, keys, ("code", code)],
+    }
+
+
+def memory(rows, refused, cases, readers):
     sections = {}
     for l in run("size", "-A", LIB).splitlines():
         m = re.match(r"\.(text|rodata|data|bss)\S*\s+(\d+)", l)
@@ -115,18 +134,11 @@ def memory(rows, refused, cases):
     worst = [max([cases[c]] + [r[1][c] for r in rows.values()]) for c in range(6)]
     for c, k in ((3, 0), (5, 1)):
         worst[c] = max([worst[c]] + [r[k] for r in refused.values()])
-    code, records, oracles = header("COVENANT_MAX_CODE"), header("COVENANT_MAX_TOKENS"), header("COVENANT_MAX_ORACLES")
-    keys = ("%d keys" % oracles, oracles * 32)
-    slices, structs = ("%d records in three slices" % records, records * 13), ("%d records" % records, records * 24)
-    lent = {
-        "Check": [("code", code)],
-        "Evaluate": [("code", code), ("checks of %d oracle terminals" % oracles, 112 * oracles), ("their witness and its ends", (80 + 12) * oracles),
-                     ("four lists of %d slots" % SLOTS, 4 * SLOTS * 9)],
-        "Write": [("code", code), slices, keys],
-        "Decode": [slices, keys, ("code", code)],
-        "Write, records": [("code", code), structs, keys],
-        "Decode, records": [structs, keys, ("code", code)],
-    }
+    code, tokens, oracles = header("COVENANT_MAX_CODE"), header("COVENANT_MAX_TOKENS"), header("COVENANT_MAX_ORACLES")
+    frame = max(readers[0] / 4, readers[1] / 6)  # an operation on values has four tokens at least, one on indexes six
+    scale = LONGER // tokens
+    more = {c: (LONGER - tokens) * (ARRAYS[c] + (frame if c.startswith("Decode") else 0)) for c in STACKS}
+    now, then = lent(code, tokens, oracles), lent(scale * code, LONGER, (LONGER - 12) // 14 + 1)
     out = ["# Memory", "", "Measured by `make bench` on x86-64. The unit has %d KiB for everything. Figures are bytes." % (UNIT_BYTES >> 10), ""]
     out += ["The archive has %d bytes of code and %d of constants, and no data of its own: nothing is allocated or kept between calls." % (text, rodata), ""]
     out += ["## Each call at its worst", ""]
@@ -134,13 +146,20 @@ def memory(rows, refused, cases):
                      "has functions that call themselves: its readers, at most once for each four tokens and once more. The token lists of the last table take them as deep as that. The proofs "
                      "say nothing about the stack: who calls must have what stands here.")
     out += paragraph("Lent is what the caller provides for the largest condition. Amounts: %d slots a list are assumed, and a transaction with more asks for more. Decode takes as many "
-                     "key bytes as the caller has; %d keys are those of the largest condition." % (SLOTS, oracles))
-    out += ["| call | stack | lent | sum with the archive | of %d KiB |" % (UNIT_BYTES >> 10), "|---|---|---|---|---|"]
+                     "key bytes as the caller has; %d keys are those of the largest condition. All is stack, lent and archive." % (SLOTS, oracles))
+    out += paragraph("The columns for %d tokens are computed: what is lent for a bound of %d tokens and %d code bytes, and the stack at %d tokens with the growth of the calls' own arrays "
+                     "(%s bytes a token) and of the readers' frames (%d bytes for each four tokens; the gate fails where a frame grows)."
+                     % (LONGER, LONGER, scale * code, tokens, ", ".join("%s %d" % p for p in ARRAYS.items() if p[1]), 4 * frame))
+    out += ["| call | stack | lent | all | of %d KiB | stack at %d | lent | all | of %d KiB |" % (UNIT_BYTES >> 10, LONGER, UNIT_BYTES >> 10), "|---" * 9 + "|"]
     for c, name in enumerate(STACKS):
-        n = sum(k for _, k in lent[name])
-        what = ", ".join("%s %d" % p for p in lent[name])
-        total = worst[c] + n + text + rodata
-        out.append("| %s | %d | %d (%s) | %d | %.0f%% |" % (name, worst[c], n, what, total, 100 * total / UNIT_BYTES))
+        cells = [name]
+        for stack, parts in ((worst[c], now[name]), (worst[c] + more[name], then[name])):
+            n = sum(k for _, k in parts)
+            total = stack + n + text + rodata
+            cells += ["%d" % stack, "%d" % n, "%d" % total, "%.0f%%" % (100 * total / UNIT_BYTES)]
+        out.append("| %s |" % " | ".join(cells))
+    out += ["", "What is lent:", ""]
+    out += ["- %s: %s; at %d tokens %s." % (c, ", ".join("%s %d" % p for p in now[c]), LONGER, ", ".join("%s %d" % p for p in then[c])) for c in STACKS]
     out += ["", "## Stack by condition", "", "| condition | tokens | " + " | ".join(STACKS) + " |", "|---" * 8 + "|"]
     for s in shapes(rows):
         for size in (256, 512, 1024):
@@ -204,7 +223,16 @@ def speed(rows, refused):
                 tokens, mine, ns, a, b = rows[s, size][:5]
                 out.append("| %s | %d | %.0f | %.0f | %.2f | %d | %d |" % (s, tokens, a[c], b[c], a[c] / b[c], mine[c], ns[c]))
         out.append("")
-    out += ["## Growth", "", "Instructions a token at 1,024 tokens over those at 256: 1.00 is linear.", "", "| condition | " + " | ".join(CALLS) + " |", "|---|---|---|---|---|"]
+    out += ["## The same job on both sides", ""]
+    out += paragraph("From what is kept of a condition to a verdict. The Rust keeps tokens: `from_tokens`, which makes the tree and judges it by `Arith::new`, and `eval`. Ours keeps condition "
+                     "code: Evaluate. Where ours is given token records as well: Decode, and Evaluate of the code.")
+    out += ["| condition | tokens | Rust | ours, from code | ratio | ours, from records | ratio |", "|---|---|---|---|---|---|---|"]
+    for s in shapes(rows):
+        for size in (12, 100, 1024):
+            tokens, _, _, a, b = rows[s, size][:5]
+            theirs, code, records = b[3] + b[1], a[1], a[3] + a[1]
+            out.append("| %s | %d | %.0f | %.0f | %.2f | %.0f | %.2f |" % (s, tokens, theirs, code, code / theirs, records, records / theirs))
+    out += ["", "## Growth", "", "Instructions a token at 1,024 tokens over those at 256: 1.00 is linear.", "", "| condition | " + " | ".join(CALLS) + " |", "|---|---|---|---|---|"]
     for s in shapes(rows):
         small, large = rows[s, 256], rows[s, 1024]
         out.append("| %s | %s |" % (s, " | ".join("%.2f" % (large[3][c] / large[0] / (small[3][c] / small[0])) for c in range(4))))
@@ -229,7 +257,8 @@ def write(name, lines):
 if __name__ == "__main__":
     build()
     rows, refused = own(), turned_down()
-    memory(rows, refused, [int(n) for n in run(os.path.join(OUT, "cases"), CASES).split()])
+    readers = [int(n) for n in re.findall(r", (\d+) bytes", run(os.path.join(OUT, "frames")))]
+    memory(rows, refused, [int(n) for n in run(os.path.join(OUT, "cases"), CASES).split()], readers)
     if os.environ.get("RUST_SOURCE"):
         counted = {k: instructions("covenant_decode", os.path.join(OUT, "calls"), "refused", REFUSED, str(n)) for n, k in enumerate(refused)}
         speed(both(rows), counted)

@@ -149,6 +149,10 @@ static void records(void) {
     expect(w.number == 0 && w.records == 12 && w.key_bytes == 32, "write_records: an oracle terminal");
     expect(r[0].kind == 25 && r[2].kind == 2 && r[2].number == 5 && r[7].kind == 3 && r[7].place == 0 && r[11].kind == 14, "write_records: the form");
     expect(kept(r, 12 * sizeof *r, sizeof r) && kept(keys, 32, 40), "write_records: what is kept");
+    for (size_t i = 0; i < 12; i++) {
+        size_t at = i * sizeof *r;
+        expect(kept(r, at + 1, at + offsetof(covenant_record, number)) && kept(r, at + offsetof(covenant_record, place) + 4, at + sizeof *r), "write_records: the padding of a record");
+    }
     memset(back, FILL, sizeof back);
     covenant_decoded d = covenant_decode_records(r, 12, keys, 32, back, COVENANT_MAX_CODE);
     expect(d.number == 0 && d.code_bytes == sizeof code && d.start == 0 && !memcmp(back, code, sizeof code), "decode_records: what was written");

@@ -1,5 +1,6 @@
 #!/bin/sh
-# run.sh: links libcovenant.a with programs in C (with a C library and without) and in Rust, and runs them. gcc must be there; where rustc is not, Rust is left out.
+# run.sh: links libcovenant.a with programs in C (with a C library and without) and in Rust, and runs them; one of them replays the vectors' cases. gcc must be there; where
+# rustc is not, Rust is left out.
 set -eu
 here=$(cd "$(dirname "$0")" && pwd)
 root=$(cd "$here/../.." && pwd)
@@ -9,6 +10,10 @@ mkdir -p "$out"
 command -v gcc >/dev/null || { echo "boundary: gcc is not on the PATH, so the calls from C can't be tried" >&2; exit 1; }
 gcc -O2 -Wall -Wextra -Werror -I"$root/include" "$here/calls.c" "$lib/libcovenant.a" -o "$out/calls_c"
 "$out/calls_c"
+gcc -O2 -Wall -Wextra -Werror -I"$root/include" "$root/tests/vectors/replay.c" "$lib/libcovenant.a" -o "$out/replay"
+"$out/replay" "$root/crates/vectors/data/cases"
+gcc -O2 -Wall -Wextra -Werror -I"$root/include" -I"$root/bench" "$here/frames.c" "$root/bench/stack.c" "$lib/libcovenant.a" -o "$out/frames"
+"$out/frames"
 gcc -O2 -fno-builtin -fno-tree-loop-distribute-patterns -c "$root/bench/memory.c" -o "$out/memory.o"
 gcc -O2 -Wall -ffreestanding -nostdlib -static -I"$root/include" "$here/bare.c" "$out/memory.o" "$lib/libcovenant.a" -o "$out/bare"
 status=0

@@ -1,5 +1,6 @@
-// Our answers to the same lines, from the archive. Buffers have the room that the calls ask for, and a byte more, which must be kept.
-use crate::covenant::{self, List, MAX_CODE, MAX_ORACLES, MAX_TOKENS};
+// Our answers to the same lines, from the archive. Buffers have the room that the calls ask for, and an element more, which must be kept. Write and Decode are asked over
+// number slices and over token records; where the two differ, both are the answer.
+use crate::covenant::{self, Decoded, List, Record as TokenRecord, Written, MAX_CODE, MAX_ORACLES, MAX_TOKENS};
 use crate::published::{hex, list, records, spell, unhex};
 use crate::common::Record;
 
@@ -33,36 +34,62 @@ pub fn evaluate(f: &[&str]) -> String {
     format!("{} {} {} {} {} {} {}", a.number, a.first, a.second, a.verdict, a.checks, a.left, hex(&checks[..n]))
 }
 
-pub fn write(f: &[&str]) -> String {
-    let (mut kinds, mut numbers, mut places, mut keys) = (vec![0xa5; MAX_TOKENS + 1], vec![5; MAX_TOKENS + 1], vec![5; MAX_TOKENS + 1], vec![0xa5; 32 * MAX_ORACLES + 1]);
-    let a = covenant::write(&unhex(f[1]), &mut kinds, &mut numbers, &mut places, &mut keys);
+/// What holds of both ways to ask.
+fn one_answer(slices: String, records: String) -> String {
+    if slices == records { slices } else { format!("{slices}, over records {records}") }
+}
+
+/// Write's answer, from the records that it wrote; `kept` is what stands in those beyond the count.
+fn form(a: Written, all: &[TokenRecord], kept: TokenRecord, keys: &[u8]) -> String {
     let n = a.records as usize;
-    assert!(kinds[n..].iter().all(|k| *k == 0xa5) && numbers[n..].iter().all(|k| *k == 5) && places[n..].iter().all(|k| *k == 5), "records beyond the count");
+    assert!(all[n..].iter().all(|r| *r == kept), "records beyond the count");
     assert!(keys[a.key_bytes as usize..].iter().all(|k| *k == 0xa5), "key bytes beyond the count");
     if a.number != 0 {
         return a.number.to_string();
     }
-    let data = |i: usize| match kinds[i] {
-        1 => (numbers[i] as u32).to_le_bytes().to_vec(),
-        2 => numbers[i].to_le_bytes().to_vec(),
-        3 => keys[places[i] as usize..][..32].to_vec(),
+    let data = |r: &TokenRecord| match r.kind {
+        1 => (r.number as u32).to_le_bytes().to_vec(),
+        2 => r.number.to_le_bytes().to_vec(),
+        3 => keys[r.place as usize..][..32].to_vec(),
         _ => vec![],
     };
-    (0..n).map(|i| spell(&Record(kinds[i], data(i)))).collect::<Vec<_>>().join(",")
+    all[..n].iter().map(|r| spell(&Record(r.kind, data(r)))).collect::<Vec<_>>().join(",")
+}
+
+pub fn write(f: &[&str]) -> String {
+    const UNSET: TokenRecord = TokenRecord { kind: 0xa5, number: 5, place: 5 };
+    let code = unhex(f[1]);
+    let (mut kinds, mut numbers, mut places, mut keys) = (vec![0xa5; MAX_TOKENS + 1], vec![5; MAX_TOKENS + 1], vec![5; MAX_TOKENS + 1], vec![0xa5; 32 * MAX_ORACLES + 1]);
+    let a = covenant::write(&code, &mut kinds, &mut numbers, &mut places, &mut keys);
+    let columns: Vec<_> = (0..kinds.len()).map(|i| TokenRecord { kind: kinds[i], number: numbers[i], place: places[i] }).collect();
+    let slices = form(a, &columns, UNSET, &keys);
+    let mut all = vec![UNSET; MAX_TOKENS + 1];
+    keys.fill(0xa5);
+    let b = covenant::write_records(&code, &mut all, &mut keys);
+    one_answer(slices, form(b, &all, UNSET, &keys))
+}
+
+/// Decode's answer, from the code that it wrote.
+fn reading(a: Decoded, code: &[u8]) -> String {
+    assert!(code[a.code_bytes as usize..].iter().all(|b| *b == 0xa5), "bytes beyond the code");
+    if a.number != 0 { a.number.to_string() } else { format!("{} {}", a.start, hex(&code[..a.code_bytes as usize])) }
 }
 
 pub fn decode(f: &[&str]) -> String {
-    let (mut kinds, mut numbers, mut places, mut keys) = (vec![], vec![], vec![], vec![]);
+    let (mut all, mut keys) = (vec![], vec![]);
     for Record(kind, data) in records(f[1]) {
-        kinds.push(kind);
-        numbers.push(if kind == 3 { 9 } else { data.iter().rev().fold(0, |n, b| n << 8 | *b as u64) });
-        places.push(if kind == 3 { keys.len() as u32 } else { 77 });
+        let number = if kind == 3 { 9 } else { data.iter().rev().fold(0, |n, b| n << 8 | *b as u64) };
+        all.push(TokenRecord { kind, number, place: if kind == 3 { keys.len() as u32 } else { 77 } });
         if kind == 3 {
             keys.extend(data);
         }
     }
+    let (kinds, numbers): (Vec<_>, Vec<_>) = all.iter().map(|r| (r.kind, r.number)).unzip();
+    let places: Vec<_> = all.iter().map(|r| r.place).collect();
     let mut code = vec![0xa5; MAX_CODE + 1];
     let a = covenant::decode(&kinds, &numbers, &places, &keys, &mut code);
-    assert!(code[a.code_bytes as usize..].iter().all(|b| *b == 0xa5), "bytes beyond the code");
-    if a.number != 0 { a.number.to_string() } else { format!("{} {}", a.start, hex(&code[..a.code_bytes as usize])) }
+    let slices = reading(a, &code);
+    code.fill(0xa5);
+    let b = covenant::decode_records(&all, &keys, &mut code);
+    one_answer(slices, reading(b, &code))
 }
