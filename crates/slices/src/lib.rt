@@ -40,10 +40,10 @@ pub fn write_le64(s: &mut [u8], at: usize, n: u64)
     }
 }
 
-// n bytes of `from`, from `at` on, go to `to`, from `off` on: by eights, each of which is one load and one store, and then the rest.
-pub fn copy(from: &[u8], at: usize, to: &mut [u8], off: usize, n: usize)
+// As many of n bytes as there are whole eights, each copied by one load and one store; how many bytes those are.
+fn copy_words(from: &[u8], at: usize, to: &mut [u8], off: usize, n: usize) -> usize
     requires { ⌜ (at + n ≤ length (now from)) × (off + n ≤ length (now to)) ⌝ }
-    ensures { λ _. ⌜ now (to .exit) ≡ paste (now (to .entry)) off (drop at (now (from .entry))) n ⌝ }
+    ensures { λ r. ⌜ (r ≤ n) × (now (to .exit) ≡ paste (now (to .entry)) off (drop at (now (from .entry))) r) ⌝ }
 {
     let mut i = 0;
     while 8 <= n - i {
@@ -51,6 +51,15 @@ pub fn copy(from: &[u8], at: usize, to: &mut [u8], off: usize, n: usize)
         write_le64(to, off + i, word);
         i += 8;
     }
+    i
+}
+
+// n bytes of `from`, from `at` on, go to `to`, from `off` on.
+pub fn copy(from: &[u8], at: usize, to: &mut [u8], off: usize, n: usize)
+    requires { ⌜ (at + n ≤ length (now from)) × (off + n ≤ length (now to)) ⌝ }
+    ensures { λ _. ⌜ now (to .exit) ≡ paste (now (to .entry)) off (drop at (now (from .entry))) n ⌝ }
+{
+    let mut i = copy_words(from, at, to, off, n);
     while i < n {
         to[off + i] = from[at + i];
         i += 1;

@@ -1,4 +1,4 @@
--- The invariant of both loops: the first i bytes are copied.
+-- The invariant: where the first i₀ bytes of a list were copied before the loop, the first i are now, whatever the list was.
 use borrow.Author.Needs.{needs}
 use Prim.Native.Nat.{ℕ, _+_, _-_, _≤_, _<_}
 use mathlib.Core.Path.{_≡_, refl, sym}
@@ -6,48 +6,25 @@ use mathlib.Core.List.{List}
 use native.Mathlib.Omega.{arith}
 use native.Mathlib.Numerals.{add-one}
 use lib.ListN.{length, drop, length-drop, length-set}
-use lib.Seq.{getD-drop, length-paste, paste, paste-suc, paste-zero}
-use Rattle.slices.proofs.Bytes.{copied-eight}
+use lib.Seq.{getD-drop, paste, paste-suc}
 use Rattle.slices.proofs.copy.Statement.{statement}
 use Rattle.slices.proofs.copy.Tie as tie
 
 abbrev Inv-loop : tie.InvT-loop
-Inv-loop from at to₀ off n i₀ to i = (i ≤ n) × (length to ≡ length to₀) × (to ≡ paste to₀ off (drop at from) i)
+Inv-loop from at to₀ off n i₀ to i =
+    (i ≤ n) × (length to ≡ length to₀)
+    × ((d : List ℕ) → length d ≡ length to₀ → to₀ ≡ paste d off (drop at from) i₀ → to ≡ paste d off (drop at from) i)
 
 abbrev μ-loop : tie.MeasureT-loop
 μ-loop from at to₀ off n i₀ to i = n - i
 
--- of what there was before the first loop, whatever it was
-abbrev Inv-loop2 : tie.InvT-loop2
-Inv-loop2 from at to₀ off n i₀ to i =
-    (i ≤ n) × (length to ≡ length to₀)
-    × ((d : List ℕ) → length d ≡ length to₀ → to₀ ≡ paste d off (drop at from) i₀ → to ≡ paste d off (drop at from) i)
+loop-holds : tie.Need-loop-holds Inv-loop μ-loop
+loop-holds c = (c .before .before .copy-words .ensures .0, refl, λ d l e. e)
 
-abbrev μ-loop2 : tie.MeasureT-loop2
-μ-loop2 from at to₀ off n i₀ to i = n - i
-
-loop-holds : tie.Need-loop-holds Inv-loop μ-loop Inv-loop2 μ-loop2
-loop-holds c =
-    let a = c .before .before .args in (omega arith, refl, paste-zero (a .to .now) (a .off) (drop (a .at) (a .from .now)))
-
-loop-again : tie.Need-loop-again Inv-loop μ-loop Inv-loop2 μ-loop2
+loop-again : tie.Need-loop-again Inv-loop μ-loop
 loop-again c =
-    let l = c .before .before .before .before .before .before in
-    let a = l .before .before .before .args in
-    let p : a .off + (l .loop .i + 8) ≤ length (a .to .now) = omega arith in
-    let q : a .at + (l .loop .i + 8) ≤ length (a .from .now) = omega arith in
-    let k : l .loop .i + 8 ≤ length (drop (a .at) (a .from .now)) = rw length-drop (omega arith) in
-    let e = copied-eight (a .to .now) (a .from .now) (l .loop .to) _ (a .at) (a .off) (l .loop .i) _ p q (l .loop .inv .2)
-    (c .before .before .before .before .read-le64 .ensures .bytes) (c .before .before .write-le64 .ensures) in
-    (omega arith, rw e (length-paste (a .to .now) (a .off) (drop (a .at) (a .from .now)) (l .loop .i + 8) p k), e)
-
-loop2-holds : tie.Need-loop2-holds Inv-loop μ-loop Inv-loop2 μ-loop2
-loop2-holds c = (c .before .loop .inv .0, refl, λ d l e. e)
-
-loop2-again : tie.Need-loop2-again Inv-loop μ-loop Inv-loop2 μ-loop2
-loop2-again c =
-    let l = c .before .before .loop2 in
-    let a = c .before .before .before .before .before .before .before .args in
+    let l = c .before .before .loop in
+    let a = c .before .before .before .before .before .before .before .before .before .args in
     let q : l .i < length (drop (a .at) (a .from .now)) = rw length-drop (omega arith) in (
       omega arith,
       simp length-set (l .inv .1),
@@ -56,12 +33,12 @@ loop2-again c =
           rw (add-one, ← paste-suc d (a .off) (drop (a .at) (a .from .now)) (l .i) 0 p q, getD-drop, ← l .inv .2 d m e),
     )
 
-returns : tie.Need-returns Inv-loop μ-loop Inv-loop2 μ-loop2
+returns : tie.Need-returns Inv-loop μ-loop
 returns c =
-    let a = c .before .before .before .before .before .before .args in
-    let l = c .before .before .before .loop .inv in
-    let e : c .before .loop2 .i ≡ a .n = omega arith in
-    rw e at (c .before .loop2 .inv .2 (a .to .now) (sym (l .1)) (l .2))
+    let words = c .before .before .before .before in
+    let a = words .before .before .before .before .args in
+    let e : c .before .loop .i ≡ a .n = omega arith in
+    rw e at (c .before .loop .inv .2 (a .to .now) (sym (c .before .before .before .to .given)) (words .copy-words .ensures .1))
 
 pub copy-spec : {M : Type 1} → statement M
 copy-spec =
@@ -69,24 +46,14 @@ copy-spec =
     (tie.spec
     Inv-loop
     μ-loop
-    Inv-loop2
-    μ-loop2
+    (λ c κs. search needs)
     loop-holds
     (λ c. search needs)
     (λ c. search needs)
-    (λ c κs. search needs)
     (λ c. search needs)
-    (λ c κs. search needs)
+    (λ c. search needs)
     (λ c. search needs)
     (λ c. search needs)
     loop-again
-    loop2-holds
-    (λ c. search needs)
-    (λ c. search needs)
-    (λ c. search needs)
-    (λ c. search needs)
-    (λ c. search needs)
-    (λ c. search needs)
-    loop2-again
     (λ c. search needs)
     returns)
