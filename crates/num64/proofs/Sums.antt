@@ -1,168 +1,153 @@
 -- Sums and differences of bits: the exact one, unless the result is on the other side of 2^63 than both that are summed.
 use Prim.Native.Nat.{ℕ, zero, suc, _+_, _-_, _%_, _<_, _≤_, _^_}
 use mathlib.Core.Path.{_≡_, refl, sym, ap, _∙_}
-use mathlib.Core.Bool.{Bool, cond, true, false}
+use mathlib.Core.Bool.{Bool, cond, not, true, false}
 use native.Mathlib.Omega.{arith}
 use lib.Dec.{ltb}
-use lib.IntN.{ℤ, pos, negsuc, negℤ, _+ℤ_, _-ℤ_}
-use lib.Signed.{mag}
+use lib.IntN.{ℤ, pos, negsuc, _+ℤ_}
 use borrow.Author.Tests.{lt-ltb, le-ltb, ltb-true, ltb-false}
 use mir.Syntax.{w64}
 use mir.Val.{SFits, toZ, ofZ}
 use mir.Facts.{toZ-ofZ, toZ-pos, toZ-neg}
 use Rattle.num64.specs.declared.Signed64.{Signed64}
-use Rattle.num64.specs.Exact.{checkedAdd, checkedNeg, checkedSub, crossed, crossing, fitted}
+use Rattle.num64.specs.Crossing.{crossed, crossing}
+use Rattle.num64.specs.Exact.{checkedAdd, checkedNeg, checkedSub, fitted}
 use Rattle.num64.proofs.Laws.{sub-below, sub-above}
 
--- the bits t, unless there is a crossing
-abbrev pub unless : Bool → ℕ → Signed64
-unless b t = cond b Signed64.Overflow (Signed64.Value (toZ w64 t))
-
-within : {c : Bool} (t : ℕ) (z : ℤ) → c ≡ false → toZ w64 t ≡ z → mag z < 2 ^ 63 → unless c t ≡ fitted z
-within t z e f h = rw (e, f, lt-ltb (mag z) (2 ^ 63) h)
-
-beyond : {c : Bool} (t : ℕ) (z : ℤ) → c ≡ true → 2 ^ 63 ≤ mag z → unless c t ≡ fitted z
-beyond t z e h = rw (e, le-ltb (mag z) (2 ^ 63) h)
-
+-- ---- the crossing, by the sides of m, n and t
 module _ (m n t : ℕ) where
-  at : {p q r : Bool} → ltb m (2 ^ 63) ≡ p → ltb n (2 ^ 63) ≡ q → ltb t (2 ^ 63) ≡ r → crossed m n t ≡ crossing p q r
-  at e f g = rw (e, f, g)
-
-  -- t is not on the other side than both, where these are on two
-  apart : m < 2 ^ 63 → 2 ^ 63 ≤ n → crossed m n t ≡ false
-  apart h k = go (ltb t (2 ^ 63)) refl
+  -- none where m and n are on two sides, or n and t on one
+  apart : (p : Bool) → ltb m (2 ^ 63) ≡ p → ltb n (2 ^ 63) ≡ not p → crossed m n t ≡ false
+  apart p e f = rw (e, f) (by p (ltb t (2 ^ 63)))
     where
-      go : (r : Bool) → ltb t (2 ^ 63) ≡ r → crossed m n t ≡ false
-      go true e = at (lt-ltb m _ h) (le-ltb n _ k) e
-      go false e = at (lt-ltb m _ h) (le-ltb n _ k) e
+      by : (p r : Bool) → crossing p (not p) r ≡ false
+      by true true = refl
+      by true false = refl
+      by false true = refl
+      by false false = refl
 
-  apart-2 : 2 ^ 63 ≤ m → n < 2 ^ 63 → crossed m n t ≡ false
-  apart-2 h k = go (ltb t (2 ^ 63)) refl
+  near : (q : Bool) → ltb n (2 ^ 63) ≡ q → ltb t (2 ^ 63) ≡ q → crossed m n t ≡ false
+  near q e f = rw (e, f) (by (ltb m (2 ^ 63)) q)
     where
-      go : (r : Bool) → ltb t (2 ^ 63) ≡ r → crossed m n t ≡ false
-      go true e = at (le-ltb m _ h) (lt-ltb n _ k) e
-      go false e = at (le-ltb m _ h) (lt-ltb n _ k) e
+      by : (p q : Bool) → crossing p q q ≡ false
+      by true true = refl
+      by true false = refl
+      by false true = refl
+      by false false = refl
 
-  -- nor where t and n are on one side
-  beside-low : n < 2 ^ 63 → t < 2 ^ 63 → crossed m n t ≡ false
-  beside-low h k = go (ltb m (2 ^ 63)) refl
+  -- else by the side of the third
+  both-low : ltb m (2 ^ 63) ≡ true → ltb n (2 ^ 63) ≡ true → crossed m n t ≡ not (ltb t (2 ^ 63))
+  both-low e f = rw (e, f) (by (ltb t (2 ^ 63)))
     where
-      go : (r : Bool) → ltb m (2 ^ 63) ≡ r → crossed m n t ≡ false
-      go true e = at e (lt-ltb n _ h) (lt-ltb t _ k)
-      go false e = at e (lt-ltb n _ h) (lt-ltb t _ k)
+      by : (r : Bool) → crossing true true r ≡ not r
+      by true = refl
+      by false = refl
 
-  beside-high : 2 ^ 63 ≤ n → 2 ^ 63 ≤ t → crossed m n t ≡ false
-  beside-high h k = go (ltb m (2 ^ 63)) refl
+  both-high : ltb m (2 ^ 63) ≡ false → ltb n (2 ^ 63) ≡ false → crossed m n t ≡ ltb t (2 ^ 63)
+  both-high e f = rw (e, f) (by (ltb t (2 ^ 63)))
     where
-      go : (r : Bool) → ltb m (2 ^ 63) ≡ r → crossed m n t ≡ false
-      go true e = at e (le-ltb n _ h) (le-ltb t _ k)
-      go false e = at e (le-ltb n _ h) (le-ltb t _ k)
+      by : (r : Bool) → crossing false false r ≡ r
+      by true = refl
+      by false = refl
 
--- the bits t as the whole number that they stand for
-below : (t k : ℕ) → t ≡ k → k < 2 ^ 63 → toZ w64 t ≡ pos k
-below t k e h = rw e (toZ-pos w64 h)
+  high-to-low : ltb n (2 ^ 63) ≡ false → ltb t (2 ^ 63) ≡ true → crossed m n t ≡ not (ltb m (2 ^ 63))
+  high-to-low e f = rw (e, f) (by (ltb m (2 ^ 63)))
+    where
+      by : (p : Bool) → crossing p false true ≡ not p
+      by true = refl
+      by false = refl
 
-above : (t k : ℕ) → t ≡ 2 ^ 64 - suc k → k < 2 ^ 63 → toZ w64 t ≡ negsuc k
-above t k e h = rw e (toZ-neg w64 k h)
+  low-to-high : ltb n (2 ^ 63) ≡ true → ltb t (2 ^ 63) ≡ false → crossed m n t ≡ ltb m (2 ^ 63)
+  low-to-high e f = rw (e, f) (by (ltb m (2 ^ 63)))
+    where
+      by : (p : Bool) → crossing p true false ≡ p
+      by true = refl
+      by false = refl
 
--- m − (n + 1), which is never beyond
-less : {c : Bool} (m n t : ℕ) → m ≤ 2 ^ 63 → n < 2 ^ 63 → t ≡ (m + (2 ^ 64 - suc n)) % 2 ^ 64 → c ≡ false → unless c t ≡ fitted (pos m +ℤ negsuc n)
-less {c} m n t f g e h = go (ltb n m) refl
+low : {k : ℕ} → k < 2 ^ 63 → ltb k (2 ^ 63) ≡ true
+low {k} h = lt-ltb k (2 ^ 63) h
+
+-- of the bits of −(k + 1)
+high : (k : ℕ) → k < 2 ^ 63 → ltb (2 ^ 64 - suc k) (2 ^ 63) ≡ false
+high k h = le-ltb (2 ^ 64 - suc k) (2 ^ 63) (omega arith)
+
+-- ---- the bits t, unless there is a crossing
+abbrev pub unless : Bool → ℕ → Signed64
+unless c t = cond c Signed64.Overflow (Signed64.Value (toZ w64 t))
+
+-- k, where the crossing is that t is not below 2^63
+unless-pos : {c : Bool} (t k : ℕ) → c ≡ not (ltb t (2 ^ 63)) → t ≡ k → unless c t ≡ fitted (pos k)
+unless-pos t k e s = rw (e, ← s) (by (ltb t (2 ^ 63)) refl)
   where
-    go : (r : Bool) → ltb n m ≡ r → unless c t ≡ fitted (pos m +ℤ negsuc n)
-    go true r =
+    by : (r : Bool) → ltb t (2 ^ 63) ≡ r → unless (not r) t ≡ cond r (Signed64.Value (pos t)) Signed64.Overflow
+    by true h = ap Signed64.Value (toZ-pos w64 (ltb-true t (2 ^ 63) h))
+    by false h = refl
+
+-- −(k + 1), where the crossing is that t is below 2^63
+unless-neg : {c : Bool} (t k : ℕ) → c ≡ ltb t (2 ^ 63) → t ≡ 2 ^ 64 - suc k → k < 2 ^ 64 → unless c t ≡ fitted (negsuc k)
+unless-neg {c} t k e s h = by (ltb k (2 ^ 63)) refl
+  where
+    by : (r : Bool) → ltb k (2 ^ 63) ≡ r → unless c t ≡ cond r (Signed64.Value (negsuc k)) Signed64.Overflow
+    by true l =
+        let lt = ltb-true k (2 ^ 63) l in
+        rw (e ∙ ap (λ (x : ℕ). ltb x (2 ^ 63)) s ∙ high k lt) (ap Signed64.Value (ap (toZ w64) s ∙ toZ-neg w64 k lt))
+    by false l = let ge = ltb-false k (2 ^ 63) l in let b : t < 2 ^ 63 = omega arith in rw (e, low b)
+
+-- m − (n + 1), where there is no crossing
+unless-less : {c : Bool} (m n t : ℕ) → c ≡ false → m ≤ 2 ^ 63 → n < 2 ^ 63 → t ≡ (m + (2 ^ 64 - suc n)) % 2 ^ 64 → unless c t ≡ fitted (pos m +ℤ negsuc n)
+unless-less {c} m n t h f g e = by (ltb n m) refl
+  where
+    by : (r : Bool) → ltb n m ≡ r → unless c t ≡ fitted (pos m +ℤ negsuc n)
+    by true r =
         let l = ltb-true n m r in
-        rw (← sub-above m n l) (within t (pos (m - n - 1)) h (below t (m - n - 1) (omega arith) (omega arith)) (omega arith))
-    go false r =
+        let s : t ≡ m - n - 1 = omega arith in
+        let b : t < 2 ^ 63 = omega arith in
+        rw (← sub-above m n l) (unless-pos t (m - n - 1) (h ∙ sym (ap not (low b))) s)
+    by false r =
         let l = ltb-false n m r in
-        rw (← sub-below m n l) (within t (negsuc (n - m)) h (above t (n - m) (omega arith) (omega arith)) (omega arith))
-
--- the bits of −(k + 1)
-high : (k : ℕ) → k < 2 ^ 63 → 2 ^ 63 ≤ 2 ^ 64 - suc k
-high k h = omega arith
-
-high-ltb : (k : ℕ) → k < 2 ^ 63 → ltb (2 ^ 64 - suc k) (2 ^ 63) ≡ false
-high-ltb k h = le-ltb (2 ^ 64 - suc k) (2 ^ 63) (high k h)
+        let s : t ≡ 2 ^ 64 - suc (n - m) = omega arith in
+        let b : ltb t (2 ^ 63) ≡ false = le-ltb t (2 ^ 63) (omega arith) in
+        rw (← sub-below m n l) (unless-neg t (n - m) (h ∙ sym b) s (omega arith))
 
 -- ---- the sum
 
 pub added : (a b : ℤ) → SFits w64 a → SFits w64 b → (t : ℕ) → t ≡ (ofZ w64 a + ofZ w64 b) % 2 ^ 64
     → unless (crossed (ofZ w64 a) (ofZ w64 b) t) t ≡ checkedAdd a b
 unfolding checkedAdd
-added (pos m) (pos n) f g t e = go (ltb t (2 ^ 63)) refl
-  where
-    s : t ≡ m + n
-    s = omega (arith, f .sfits, g .sfits)
-
-    go : (r : Bool) → ltb t (2 ^ 63) ≡ r → unless (crossed m n t) t ≡ fitted (pos (m + n))
-    go true r =
-        let l = ltb-true t (2 ^ 63) r in
-        within t (pos (m + n)) (at m n t (lt-ltb m _ (f .sfits)) (lt-ltb n _ (g .sfits)) r) (below t (m + n) s (omega (arith, s))) (omega (arith, s))
-    go false r =
-        let l = ltb-false t (2 ^ 63) r in
-        beyond t (pos (m + n)) (at m n t (lt-ltb m _ (f .sfits)) (lt-ltb n _ (g .sfits)) r) (omega (arith, s))
+added (pos m) (pos n) f g t e =
+    unless-pos t (m + n) (both-low m n t (low (f .sfits)) (low (g .sfits))) (omega (arith, f .sfits, g .sfits))
 added (pos m) (negsuc n) f g t e =
-    less m n t (omega (arith, f .sfits)) (g .sfits) e (apart m (2 ^ 64 - suc n) t (f .sfits) (omega (arith, g .sfits)))
+    unless-less m n t (apart m (2 ^ 64 - suc n) t true (low (f .sfits)) (high n (g .sfits))) (omega (arith, f .sfits)) (g .sfits) e
 added (negsuc m) (pos n) f g t e =
-    less n m t (omega (arith, g .sfits)) (f .sfits) (omega arith) (apart-2 (2 ^ 64 - suc m) n t (omega (arith, f .sfits)) (g .sfits))
-added (negsuc m) (negsuc n) f g t e = go (ltb t (2 ^ 63)) refl
-  where
-    s : t ≡ 2 ^ 64 - suc (suc (m + n))
-    s = omega (arith, f .sfits, g .sfits)
+    unless-less n m t (apart (2 ^ 64 - suc m) n t false (high m (f .sfits)) (low (g .sfits))) (omega (arith, g .sfits)) (f .sfits) (omega arith)
+added (negsuc m) (negsuc n) f g t e =
+    unless-neg t (suc (m + n)) (both-high (2 ^ 64 - suc m) (2 ^ 64 - suc n) t (high m (f .sfits)) (high n (g .sfits)))
+    (omega (arith, f .sfits, g .sfits)) (omega (arith, f .sfits, g .sfits))
 
-    go : (r : Bool) → ltb t (2 ^ 63) ≡ r → unless (crossed (2 ^ 64 - suc m) (2 ^ 64 - suc n) t) t ≡ fitted (negsuc (suc (m + n)))
-    go true r =
-        let l = ltb-true t (2 ^ 63) r in
-        beyond t (negsuc (suc (m + n))) (at (2 ^ 64 - suc m) (2 ^ 64 - suc n) t (high-ltb m (f .sfits)) (high-ltb n (g .sfits)) r) (omega (arith, s, f .sfits, g .sfits))
-    go false r =
-        let l = ltb-false t (2 ^ 63) r in
-        within t (negsuc (suc (m + n))) (at (2 ^ 64 - suc m) (2 ^ 64 - suc n) t (high-ltb m (f .sfits)) (high-ltb n (g .sfits)) r)
-        (above t (suc (m + n)) s (omega (arith, s, f .sfits, g .sfits))) (omega (arith, s, f .sfits, g .sfits))
-
--- ---- the difference
+-- ---- the difference: t and b are summed
 
 pub subtracted : (a b : ℤ) → SFits w64 a → SFits w64 b → (t : ℕ) → t < 2 ^ 64 → (t + ofZ w64 b) % 2 ^ 64 ≡ ofZ w64 a
     → unless (crossed t (ofZ w64 b) (ofZ w64 a)) t ≡ checkedSub a b
 unfolding checkedSub
 subtracted (pos m) (pos zero) f g t l e =
     let s : t ≡ m + 0 = omega (arith, f .sfits) in
-    within t (pos (m + 0)) (beside-low t 0 m (omega arith) (f .sfits)) (below t (m + 0) s (omega (arith, f .sfits))) (omega (arith, f .sfits))
+    let b : t < 2 ^ 63 = omega (arith, f .sfits) in
+    unless-pos t (m + 0) (near t 0 m true refl (low (f .sfits)) ∙ sym (ap not (low b))) s
 subtracted (pos m) (pos (suc n)) f g t l e =
-    less m n t (omega (arith, f .sfits)) (omega (arith, g .sfits)) (omega (arith, f .sfits, g .sfits)) (beside-low t (suc n) m (g .sfits) (f .sfits))
-subtracted (pos m) (negsuc n) f g t l e = go (ltb t (2 ^ 63)) refl
-  where
-    s : t ≡ m + suc n
-    s = omega (arith, f .sfits, g .sfits)
-
-    go : (r : Bool) → ltb t (2 ^ 63) ≡ r → unless (crossed t (2 ^ 64 - suc n) m) t ≡ fitted (pos (m + suc n))
-    go true r =
-        let k = ltb-true t (2 ^ 63) r in
-        within t (pos (m + suc n)) (at t (2 ^ 64 - suc n) m r (high-ltb n (g .sfits)) (lt-ltb m (2 ^ 63) (f .sfits))) (below t (m + suc n) s (omega (arith, s))) (omega (arith, s))
-    go false r =
-        let k = ltb-false t (2 ^ 63) r in
-        beyond t (pos (m + suc n)) (at t (2 ^ 64 - suc n) m r (high-ltb n (g .sfits)) (lt-ltb m (2 ^ 63) (f .sfits))) (omega (arith, s))
+    unless-less m n t (near t (suc n) m true (low (g .sfits)) (low (f .sfits))) (omega (arith, f .sfits)) (omega (arith, g .sfits))
+    (omega (arith, f .sfits, g .sfits))
+subtracted (pos m) (negsuc n) f g t l e =
+    unless-pos t (m + suc n) (high-to-low t (2 ^ 64 - suc n) m (high n (g .sfits)) (low (f .sfits))) (omega (arith, f .sfits, g .sfits))
 subtracted (negsuc m) (pos zero) f g t l e =
-    less 0 m t (omega arith) (f .sfits) (omega (arith, f .sfits)) (at-zero (ltb t (2 ^ 63)) refl)
-  where
-    at-zero : (r : Bool) → ltb t (2 ^ 63) ≡ r → crossed t 0 (2 ^ 64 - suc m) ≡ false
-    at-zero true r = let k = ltb-true t (2 ^ 63) r in absurd (omega (arith, f .sfits))
-    at-zero false r = at t 0 (2 ^ 64 - suc m) r refl (high-ltb m (f .sfits))
-subtracted (negsuc m) (pos (suc n)) f g t l e = go (ltb t (2 ^ 63)) refl
-  where
-    s : t ≡ 2 ^ 64 - suc (suc (m + n))
-    s = omega (arith, f .sfits, g .sfits)
-
-    go : (r : Bool) → ltb t (2 ^ 63) ≡ r → unless (crossed t (suc n) (2 ^ 64 - suc m)) t ≡ fitted (negsuc (suc (m + n)))
-    go true r =
-        let k = ltb-true t (2 ^ 63) r in
-        beyond t (negsuc (suc (m + n))) (at t (suc n) (2 ^ 64 - suc m) r (lt-ltb (suc n) (2 ^ 63) (g .sfits)) (high-ltb m (f .sfits))) (omega (arith, s, f .sfits, g .sfits))
-    go false r =
-        let k = ltb-false t (2 ^ 63) r in
-        within t (negsuc (suc (m + n))) (at t (suc n) (2 ^ 64 - suc m) r (lt-ltb (suc n) (2 ^ 63) (g .sfits)) (high-ltb m (f .sfits)))
-        (above t (suc (m + n)) s (omega (arith, s, f .sfits, g .sfits))) (omega (arith, s, f .sfits, g .sfits))
+    let s : t ≡ 2 ^ 64 - suc m = omega (arith, f .sfits) in
+    let b : ltb t (2 ^ 63) ≡ false = rw s (high m (f .sfits)) in
+    unless-less 0 m t (low-to-high t 0 (2 ^ 64 - suc m) refl (high m (f .sfits)) ∙ b) (omega arith) (f .sfits) (omega (arith, f .sfits))
+subtracted (negsuc m) (pos (suc n)) f g t l e =
+    unless-neg t (suc (m + n)) (low-to-high t (suc n) (2 ^ 64 - suc m) (low (g .sfits)) (high m (f .sfits))) (omega (arith, f .sfits, g .sfits))
+    (omega (arith, f .sfits, g .sfits))
 subtracted (negsuc m) (negsuc n) f g t l e =
-    less (suc n) m t (omega (arith, g .sfits)) (f .sfits) (omega (arith, f .sfits, g .sfits))
-    (beside-high t (2 ^ 64 - suc n) (2 ^ 64 - suc m) (high n (g .sfits)) (high m (f .sfits)))
+    unless-less (suc n) m t (near t (2 ^ 64 - suc n) (2 ^ 64 - suc m) false (high n (g .sfits)) (high m (f .sfits)))
+    (omega (arith, g .sfits)) (f .sfits) (omega (arith, f .sfits, g .sfits))
 
 -- 0 − a
 pub negation : (a : ℤ) → checkedSub (pos 0) a ≡ checkedNeg a

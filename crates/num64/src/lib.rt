@@ -5,7 +5,8 @@ ghost use Prim.Native.Nat.{_+_, _<_, _≤_, _^_};
 ghost use lib.IntN.{pos, negsuc, natAbs, negℤ, _+ℤ_};
 ghost use lib.Signed.{mag, shrZ};
 ghost use Rattle.num64.specs.Exact.{number, signOf, restOf};
-ghost use Rattle.num64.specs.Exact.{checkedAdd, checkedSub, checkedMul, checkedNeg, checkedDiv, checkedRem, crossed, fitted};
+ghost use Rattle.num64.specs.Exact.{checkedAdd, checkedSub, checkedMul, checkedNeg, checkedDiv, checkedRem, fitted};
+ghost use Rattle.num64.specs.Crossing.{crossed};
 
 // 2^63: the bits from here on are those of negative numbers.
 const HALF: u64 = 0x8000_0000_0000_0000;
