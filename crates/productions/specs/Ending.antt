@@ -88,6 +88,10 @@ rows = map rowOf (productions [])
 abbrev pub rowCount : ℕ
 rowCount = 29
 
+-- those of values come first
+abbrev pub valueCount : ℕ
+valueCount = 17
+
 abbrev pub divRow : ℕ
 divRow = 10
 

@@ -8,12 +8,10 @@ ghost use Rattle.semantics.specs.Code.{maxTokens};
 ghost use Rattle.semantics.specs.Records.{recordsOf};
 ghost use Rattle.productions.specs.Before.{Numbered, tokensBefore};
 ghost use Rattle.productions.specs.Noted.{Rows, rowIn};
-ghost use Rattle.productions.specs.Ending.{candidateOf, ends, entry, equalKind, fits, kindAt, numOne, production, rowAt, rowCount, rowFound, rows, rowsBefore};
+ghost use Rattle.productions.specs.Ending.{candidateOf, ends, entry, equalKind, fits, kindAt, numOne, production, rowAt, rowCount, rowFound, rows, rowsBefore, valueCount};
 
 // Kinds of tokens.
 const NUM: u8 = 1;
-
-pub const SCRIPT_NUM_TO_LE64: u8 = 7;
 
 const LE64_TO_SCRIPT_NUM: u8 = 8;
 
@@ -27,12 +25,16 @@ const NIP: u8 = 16;
 const NUM_ONE: u8 = 36;
 
 // The rows stand in runs: a constant, lookups, operations on one value, on two, oracle terminals; index terminals, index operations; what stands between
-// the operands of index mul and div; comparisons. Each run is named by its first row, and the number of rows is no row's.
+// the operands of index mul and div; comparisons. A run is named by its first row, and some rows have names of their own; the number of rows is no row's.
 pub const LOOKUPS: usize = 1;
 
 pub const INPUT: usize = 1;
 
+const ISSUES: usize = 3;
+
 pub const UNARIES: usize = 5;
+
+const NEGATE: usize = 6;
 
 pub const BINARIES: usize = 7;
 
@@ -41,6 +43,8 @@ const DIV: usize = 10;
 pub const BIT_OPERATIONS: usize = 12;
 
 pub const ORACLES: usize = 15;
+
+const PRICE_ORACLE_1W: usize = 16;
 
 pub const INDEXES: usize = 17;
 
@@ -110,45 +114,53 @@ pub fn command(row: usize) -> u8
     e[0]
 }
 
-// The number of a row's own tokens, by runs of rows: the readers hold nothing of a table while they call themselves.
+// The number of a row's own tokens, of the rows of values.
+fn value_width(row: usize) -> usize
+    requires { ⌜ row < valueCount ⌝ }
+    ensures { λ r. ⌜ r ≡ length (rowAt row .marks) ⌝ }
+{
+    if row < LOOKUPS {
+        return 1;
+    }
+    if row < ISSUES {
+        return 4;
+    }
+    if row < UNARIES {
+        return 8;
+    }
+    if row < NEGATE {
+        return 1;
+    }
+    if row < DIV {
+        return 4;
+    }
+    if row < BIT_OPERATIONS {
+        return 5;
+    }
+    if row < ORACLES {
+        return 1;
+    }
+    if row < PRICE_ORACLE_1W {
+        return 10;
+    }
+    13
+}
+
+// The number of a row's own tokens. It goes by tests, so that the readers hold nothing of a table while they call themselves.
 pub fn width(row: usize) -> usize
     requires { ⌜ row < rowCount ⌝ }
     ensures { λ r. ⌜ r ≡ length (rowAt row .marks) ⌝ }
 {
-    if row < 1 {
+    if row < INDEXES {
+        return value_width(row);
+    }
+    if row < INDEX_MUL {
         return 1;
     }
-    if row < 3 {
-        return 4;
-    }
-    if row < 5 {
-        return 8;
-    }
-    if row < 6 {
-        return 1;
-    }
-    if row < 10 {
-        return 4;
-    }
-    if row < 12 {
-        return 5;
-    }
-    if row < 15 {
-        return 1;
-    }
-    if row < 16 {
-        return 10;
-    }
-    if row < 17 {
-        return 13;
-    }
-    if row < 21 {
-        return 1;
-    }
-    if row < 22 {
+    if row < INDEX_DIV {
         return 6;
     }
-    if row < 23 {
+    if row < BETWEEN {
         return 7;
     }
     1
@@ -289,7 +301,7 @@ fn ends_with_one_equal(kinds: &[u8], numbers: &[u64], end: usize) -> bool
 
 // The row that the tokens before `end` end with, or the number of rows. The kind of the last one tells a row of one token; rows of four tokens differ in the
 // first of them alone.
-pub fn production(kinds: &[u8], numbers: &[u64], end: usize) -> usize
+fn production(kinds: &[u8], numbers: &[u64], end: usize) -> usize
     requires { ⌜ Numbered (now kinds) (now numbers) end ⌝ }
     ensures { λ r. ⌜ ((places keys : List ℕ) →
         r ≡ rowFound (production (tokensBefore (now (kinds .entry)) (now (numbers .entry)) places keys end))) ⌝ }
