@@ -17,6 +17,13 @@ ghost use Rattle.token_table.specs.Runs.{run};
 ghost use Rattle.semantics.specs.Records.{recordsOf};
 ghost use Rattle.token_form.specs.Storing.{Coded, Room, Stored, emitted, keysOf};
 
+// Kinds of tokens that carry something.
+const NUM: u8 = 1;
+
+const BYTES8: u8 = 2;
+
+const BYTES32: u8 = 3;
+
 // The number of a command's Num, which is 1 but for an index constant, and of its Bytes8.
 struct Numbers {
     number: u64,
@@ -59,13 +66,13 @@ fn numbers_of(command: Command, code: &[u8], at: usize) -> Numbers
 fn number_at(kind: u8, number: u64, bits: u64) -> u64
     ensures { λ r. ⌜ r ≡ numberAt number bits kind ⌝ }
 {
-    if kind > 3 {
+    if BYTES32 < kind {
         return 0;
     }
-    if kind == 1 {
+    if kind == NUM {
         return number;
     }
-    if kind == 2 {
+    if kind == BYTES8 {
         return bits;
     }
     0
@@ -75,7 +82,7 @@ fn number_at(kind: u8, number: u64, bits: u64) -> u64
 fn place_at(kind: u8, place: u32) -> u32
     ensures { λ r. ⌜ r ≡ placeAt place kind ⌝ }
 {
-    if kind == 3 { place } else { 0 }
+    if kind == BYTES32 { place } else { 0 }
 }
 
 // The records of the first `count` kinds of a row.
@@ -186,20 +193,20 @@ fn kind_of(byte: u8) -> u8
     ensures { λ r. ⌜ Single (commandOf byte) r ⌝ }
 {
     match byte {
-        1 => 1,
-        2 => 4,
-        3 => 5,
-        4 => 6,
-        16 => 2,
-        27 => 18,
-        28 => 19,
-        29 => 20,
-        30 => 21,
-        48 => 14,
-        49 => 31,
-        50 => 30,
-        51 => 29,
-        52 => 28,
+        1 => NUM,
+        2 => 4, // CurrInp
+        3 => 5, // Add
+        4 => 6, // Sub
+        16 => BYTES8,
+        27 => 18, // And
+        28 => 19, // Or
+        29 => 20, // Xor
+        30 => 21, // Invert
+        48 => 14, // Equal
+        49 => 31, // Le64
+        50 => 30, // Leq64
+        51 => 29, // Ge64
+        52 => 28, // Geq64
         _ => 0,
     }
 }
@@ -223,6 +230,17 @@ struct Next {
     width: usize,
 }
 
+// One record without a key, of a command with so many operand bytes.
+fn one_record(width: usize) -> Next
+    ensures { λ r. ⌜ r ≡ record { records = 1; «key_bytes» = 0; width = width } ⌝ }
+{
+    Next {
+        records: 1,
+        key_bytes: 0,
+        width,
+    }
+}
+
 // The records of a byte's command, as `write_command` writes them; most commands have one token, which is written at once.
 fn write_next(
     byte: u8,
@@ -242,22 +260,14 @@ fn write_next(
 {
     if !marked {
         let kind = kind_of(byte);
-        if 2 < kind {
+        if BYTES8 < kind {
             write_one(kind, 0, kinds, numbers, places);
-            return Next {
-                records: 1,
-                key_bytes: 0,
-                width: 0,
-            };
+            return one_record(0);
         }
         if kind != 0 {
             let number = slices::read_le64(code, at);
             write_one(kind, number, kinds, numbers, places);
-            return Next {
-                records: 1,
-                key_bytes: 0,
-                width: 8,
-            };
+            return one_record(8);
         }
     }
     let command = command_of(byte);

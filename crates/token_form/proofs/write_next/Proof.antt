@@ -63,14 +63,15 @@ write-one-requires c κs =
 
 returns : tie.Need-returns
 returns c =
-    let w = c .before .before .before .before .before .before in
+    let w = c .before .before .before .before .before .before .before in
     let u = w .before .before .before .before in
     let s = begin (u .before) in
     let m = unmarked (u .before) in
     let p = plain u in
     let n = one-counts (command s) (operands s) (s .args .marked) m _ 0 (p .2 (operands s)) in
     let e = w .write-one .ensures in
-    ((n .0, n .1, sym (p .0)), one-leaves (command s) (operands s) (s .args .marked) m _ 0 (p .2 (operands s)) (s .args .place) _ _ (p .1) (e .0) (e .1 .0) (e .1 .1) refl)
+    let stored = one-leaves (command s) (operands s) (s .args .marked) m _ 0 (p .2 (operands s)) (s .args .place) _ _ (p .1) (e .0) (e .1 .0) (e .1 .1) refl in
+    rw (c .one-record .ensures) ((n .0, n .1, sym (p .0)), stored)
 
 read-le64-requires : tie.Need-read-le64-requires
 read-le64-requires c κs = rw (numbered c .0) at (begin (c .before .before) .pre .0 .1)
@@ -83,14 +84,15 @@ write-one-requires-2 c κs =
 
 returns-2 : tie.Need-returns-2
 returns-2 c =
-    let w = c .before .before .before .before .before .before in
+    let w = c .before .before .before .before .before .before .before in
     let r = w .before .before .before .before in
     let s = begin (r .before .before .before) in
     let m = unmarked (r .before .before .before) in
     let q = numbered (r .before) in
     let n = one-counts (command s) (operands s) (s .args .marked) m _ _ (number-read r) in
     let e = w .write-one2 .ensures in
-    ((n .0, n .1, sym (q .0)), one-leaves (command s) (operands s) (s .args .marked) m _ _ (number-read r) (s .args .place) _ _ (q .1) (e .0) (e .1 .0) (e .1 .1) refl)
+    let stored = one-leaves (command s) (operands s) (s .args .marked) m _ _ (number-read r) (s .args .place) _ _ (q .1) (e .0) (e .1 .0) (e .1 .1) refl in
+    rw (c .one-record2 .ensures) ((n .0, n .1, sym (q .0)), stored)
 
 write-command-requires : tie.Need-write-command-requires
 write-command-requires c κs =
@@ -112,12 +114,14 @@ write-next-spec =
     (tie.spec
     (λ c κs. search needs)
     write-one-requires
+    (λ c κs. search needs)
     (λ c. search needs)
     (λ c. search needs)
     (λ c. search needs)
     returns
     read-le64-requires
     write-one-requires-2
+    (λ c κs. search needs)
     (λ c. search needs)
     (λ c. search needs)
     (λ c. search needs)
