@@ -50,7 +50,8 @@ covenant_checked covenant_check(const uint8_t *code, size_t code_count);
  *     issues, and the number of reissuance keys that each input issues. The lists of inputs, spent, issued and reissued, have equal length;
  *   - the index of the input, counted from 0;
  *   - the witness: the bytes of its elements, bottom first, and where each of them ends. An oracle terminal takes three elements off the top: the price (8 bytes),
- *     then the time (8), then the signature (64). So they are lent as signature, time, price, those of the first terminal last;
+ *     then the time (8), then the signature (64). So they are lent as signature, time, price, those of the first terminal last. An element that is no push is given
+ *     as empty: it ends where the one below it ends;
  *   - a buffer with 112 bytes for each oracle terminal of the condition.
  * A check is 112 bytes: key (32), the terminal's time (8), price (8), signature (64). Checks stand in the order in which the terminals are evaluated. The host verifies
  * each of them; the verdict counts only if all hold. Prices and times are little-endian.

@@ -512,6 +512,7 @@ def oracle_examples():
     told(run(SIGNATURE, EARLY, eight), (0, 0, 0, 0, 1, 0, check_bytes(eight)))
     told(run(SIGNATURE, LATE, PRICE), (39, 0, 0, 0, 0, 0, b""))
     told(run(PRICE, EARLY, SIGNATURE), (34, 0, 0, 0, 0, 2, b""))
+    told(run(SIGNATURE, EARLY, b""), (34, 0, 0, 0, 0, 2, b""))  # an element that is no push
 
 
 def decoding_examples():
