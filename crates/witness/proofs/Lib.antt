@@ -2,3 +2,4 @@
 pub mod Elements
 pub mod Oracles
 pub mod Walk
+pub mod Plain
