@@ -3,5 +3,3 @@ pub mod Moves
 pub mod Loop
 pub mod Calls
 pub mod Turns
-pub mod Again
-pub mod Lent

@@ -1,5 +1,4 @@
 -- Laws of what the specs of this crate define, one file a subject.
 pub mod Elements
 pub mod Oracles
-pub mod Walk
 pub mod Plain
