@@ -186,7 +186,8 @@ pub record Loop (env : Env) (code witness ends out₀ out : List ℕ) (values : 
       ≡ fold (runStep env) (Run.going [] [] (stateOf witness ends out₀ (length ends) 0)) (instructions code)
 
 module _ {env : Env} {code witness ends out₀ : List ℕ} where
-  pub loop-start : {values : List ℤ} {indexes : List ℕ} → Fits code values indexes out₀ → Loop env code witness ends out₀ out₀ values indexes 0 0 (length ends) 0 0
+  pub loop-start : {values : List ℤ} {indexes : List ℕ} → Fits code values indexes out₀
+      → Loop env code witness ends out₀ out₀ values indexes 0 0 (length ends) 0 0
   loop-start f =
       record {
         last = f .last;
@@ -199,7 +200,8 @@ module _ {env : Env} {code witness ends out₀ : List ℕ} where
         runs = refl;
       }
 
-  module _ {out : List ℕ} {values : List ℤ} {indexes : List ℕ} {v i left checks at : ℕ} (l : Loop env code witness ends out₀ out values indexes v i left checks at) where
+  module _ {out : List ℕ} {values : List ℤ} {indexes : List ℕ} {v i left checks at : ℕ}
+      (l : Loop env code witness ends out₀ out values indexes v i left checks at) where
     pub loop-inside : at < length code
     loop-inside = ahead-inside code (l .last) at v i checks (l .ahead)
 
@@ -210,7 +212,8 @@ module _ {env : Env} {code witness ends out₀ : List ℕ} where
     loop-supplied = ahead-supplied code (l .last) at v i checks (l .ahead) witness ends out left (l .room) (l .few)
 
     -- one turn of it, by what `step` promises
-    module _ {out′ : List ℕ} {left′ checks′ : ℕ} (values′ : List ℤ) (indexes′ : List ℕ) (turn : Turn) (m : Moves (commandAt code at) left checks left′ checks′ out out′)
+    module _ {out′ : List ℕ} {left′ checks′ : ℕ} (values′ : List ℤ) (indexes′ : List ℕ) (turn : Turn)
+        (m : Moves (commandAt code at) left checks left′ checks′ out out′)
         (e : runOf values′ indexes′ (stateOf witness ends out′ left′ checks′) turn
         ≡ act env (commandAt code at) (operandsAt code at) (valuesIn values v) (indexesIn indexes i) (stateOf witness ends out left checks))
         (same : length out′ ≡ length out) where

@@ -29,13 +29,15 @@ use Rattle.evaluation.proofs.Moves.{Moves, oracle-asks, oracle-moves, o
 
 -- ---- what a turn of the callees is, as what is next
 pub fetched-turn : (env : Env) (code : List ℕ) (values : List ℤ) (indexes : List ℕ) (s : Spot) (values′ : List ℤ) (indexes′ : List ℕ) (t : Turn)
-    → ((st : State) → runOf values′ indexes′ st t ≡ act env (commandAt code (s .at)) (operandsAt code (s .at)) (valuesIn values (s .values)) (indexesIn indexes (s .indexes)) st)
+    → ((st : State) → runOf values′ indexes′ st t
+    ≡ act env (commandAt code (s .at)) (operandsAt code (s .at)) (valuesIn values (s .values)) (indexesIn indexes (s .indexes)) st)
     → Fetched env code values indexes s values′ indexes′ (nextOf (after code (s .at)) t)
 fetched-turn env code values indexes s values′ indexes′ (Turn.On v i) f = (refl, f)
 fetched-turn env code values indexes s values′ indexes′ (Turn.Ended r) f = f
 
 -- the same of the command that was told apart, by its effect
-module _ (env : Env) (code : List ℕ) (values : List ℤ) (indexes : List ℕ) (s : Spot) (values′ : List ℤ) (indexes′ : List ℕ) (command : Command) (known : command ≡ commandAt code (s .at)) where
+module _ (env : Env) (code : List ℕ) (values : List ℤ) (indexes : List ℕ) (s : Spot) (values′ : List ℤ) (indexes′ : List ℕ) (command : Command)
+    (known : command ≡ commandAt code (s .at)) where
   abbrev bytes : List ℕ
   bytes = take (commandRow command .width) (drop (s .at + 1) code)
 
@@ -54,11 +56,13 @@ module _ (env : Env) (code : List ℕ) (values : List ℤ) (indexes : List ℕ) 
       turned p = rw (is, q, known) (fetched-turn env code values indexes s values′ indexes′ t (λ st. (rw p at (f st)) ∙ here st))
 
       pub looked : (list : AmountList) (i rest : ℕ) → e ≡ Effect.Amount list i rest → (values″ : List ℤ)
-          → ((st : State) → runOf values″ indexes′ st t ≡ pushValue (valuesIn values′ (s .values)) (indexesIn indexes′ rest) (outcome (lookedUp env list (some (pos i))) st))
+          → ((st : State) → runOf values″ indexes′ st t
+          ≡ pushValue (valuesIn values′ (s .values)) (indexesIn indexes′ rest) (outcome (lookedUp env list (some (pos i))) st))
           → Fetched env code values indexes s values″ indexes′ r
       looked list i rest p values″ g = rw (is, q, known) (fetched-turn env code values indexes s values″ indexes′ t (λ st. g st ∙ (rw p at (f st)) ∙ here st))
 
-    pub waits : OracleOnly command e → e ≡ Effect.Oracle → Fetched env code values indexes s values′ indexes′ (Next.Oracle (record { at = s .at + 1; values = s .values; indexes = s .indexes }))
+    pub waits : OracleOnly command e → e ≡ Effect.Oracle
+        → Fetched env code values indexes s values′ indexes′ (Next.Oracle (record { at = s .at + 1; values = s .values; indexes = s .indexes }))
     waits o p =
         let oracular : Oracular command = rw p at o in
         let width = oracle-width command oracular in
@@ -83,7 +87,8 @@ module _ (env : Env) (code witness ends out₀ : List ℕ) where
   Good out values indexes h (Next.Command s) = Loop env code witness ends out₀ out values indexes (s .values) (s .indexes) (h .left) (h .checks) (s .at)
   Good out values indexes h (Next.Oracle s) = Paused env code witness ends out₀ out values indexes h s
   Good out values indexes h (Next.Ended r) =
-      Answers out₀ (fold (runStep env) (Run.going [] [] (stateOf witness ends out₀ (length ends) 0)) (instructions code)) (record { answer = record { verdict = r; checks = h .checks; left = h .left }; buffer = out })
+      Answers out₀ (fold (runStep env) (Run.going [] [] (stateOf witness ends out₀ (length ends) 0)) (instructions code))
+      (record { answer = record { verdict = r; checks = h .checks; left = h .left }; buffer = out })
 
   -- how much is left
   abbrev pub rank : Next → ℕ
@@ -91,7 +96,8 @@ module _ (env : Env) (code witness ends out₀ : List ℕ) where
   rank (Next.Oracle s) = 2 * (length code - s .at) + 2
   rank (Next.Ended r) = 0
 
-  pub good-start : (values : List ℤ) (indexes : List ℕ) → Fits code values indexes out₀ → Good out₀ values indexes (record { left = length ends; checks = 0 }) (Next.Command (record { at = 0; values = 0; indexes = 0 }))
+  pub good-start : (values : List ℤ) (indexes : List ℕ) → Fits code values indexes out₀
+      → Good out₀ values indexes (record { left = length ends; checks = 0 }) (Next.Command (record { at = 0; values = 0; indexes = 0 }))
   good-start values indexes f = loop-start f
 
   module _ (sound : endsSound 0 (length witness) ends ≡ true) (out : List ℕ) (values : List ℤ) (indexes : List ℕ) (h : Witness) (s : Spot) where
@@ -99,16 +105,32 @@ module _ (env : Env) (code witness ends out₀ : List ℕ) where
     pub fetches : Good out values indexes h (Next.Command s) → Fetches code values indexes s
     fetches l = record { inside = loop-inside l; operands = loop-supplied l sound .operands; ready = loop-ready l }
 
-    pub fetched-good : Good out values indexes h (Next.Command s) → (values′ : List ℤ) (indexes′ : List ℕ) → length values′ ≡ length values → length indexes′ ≡ length indexes
+    pub fetched-good : Good out values indexes h (Next.Command s) → (values′ : List ℤ) (indexes′ : List ℕ) → length values′ ≡ length values
+        → length indexes′ ≡ length indexes
         → (r : Next) → Fetched env code values indexes s values′ indexes′ r → Good out values′ indexes′ h r
     fetched-good l values′ indexes′ x y (Next.Command t) f =
-        rw (f .0) (loop-next l values′ indexes′ (Turn.On (t .values) (t .indexes)) (rests (commandAt code (s .at)) (h .left) (h .checks) out) (f .1 (stateOf witness ends out (h .left) (h .checks))) refl (t .values) (t .indexes) refl x y)
+        let st = stateOf witness ends out (h .left) (h .checks) in
+        let moves = rests (commandAt code (s .at)) (h .left) (h .checks) out in
+        rw (f .0) (loop-next l values′ indexes′ (Turn.On (t .values) (t .indexes)) moves (f .1 st) refl (t .values) (t .indexes) refl x y)
     fetched-good l values′ indexes′ x y (Next.Oracle t) f =
-        record { values₀ = values; indexes₀ = indexes; spot = s; loop = l; values-same = x; indexes-same = y; at-is = f .0; v-is = f .1; oracular = f .3; runs = f .4 }
+        record {
+          values₀ = values;
+          indexes₀ = indexes;
+          spot = s;
+          loop = l;
+          values-same = x;
+          indexes-same = y;
+          at-is = f .0;
+          v-is = f .1;
+          oracular = f .3;
+          runs = f .4;
+        }
     fetched-good l values′ indexes′ x y (Next.Ended r) f =
-        loop-ended l values′ indexes′ (Turn.Ended r) (rests (commandAt code (s .at)) (h .left) (h .checks) out) (f (stateOf witness ends out (h .left) (h .checks))) refl r refl
+        loop-ended l values′ indexes′ (Turn.Ended r) (rests (commandAt code (s .at)) (h .left) (h .checks) out)
+        (f (stateOf witness ends out (h .left) (h .checks))) refl r refl
 
-    pub fetched-falls : Good out values indexes h (Next.Command s) → (values′ : List ℤ) (indexes′ : List ℕ) (r : Next) → Fetched env code values indexes s values′ indexes′ r → rank r < rank (Next.Command s)
+    pub fetched-falls : Good out values indexes h (Next.Command s) → (values′ : List ℤ) (indexes′ : List ℕ) (r : Next)
+        → Fetched env code values indexes s values′ indexes′ r → rank r < rank (Next.Command s)
     fetched-falls l values′ indexes′ (Next.Command t) f = omega (arith, loop-inside l, f .0)
     fetched-falls l values′ indexes′ (Next.Oracle t) f = omega (arith, loop-inside l, f .0)
     fetched-falls l values′ indexes′ (Next.Ended r) f = omega arith
@@ -116,26 +138,34 @@ module _ (env : Env) (code witness ends out₀ : List ℕ) where
     -- ---- an oracle terminal
     module _ (p : Good out values indexes h (Next.Oracle s)) where
       pub paused-asks : Asks code (s .at) witness ends out h
-      paused-asks = rw (p .at-is) (oracle-asks (commandAt code (p .spot .at)) code (p .spot .at + 1) witness ends out h (p .oracular) (loop-supplied (p .loop) sound))
+      paused-asks =
+          rw (p .at-is) (oracle-asks (commandAt code (p .spot .at)) code (p .spot .at + 1) witness ends out h (p .oracular) (loop-supplied (p .loop) sound))
 
       pub paused-room : s .values < length values
       paused-room = omega (arith, p .v-is, p .values-same, loop-ready (p .loop) .values-fit)
 
-      module _ (out′ : List ℕ) (price : Value) (h′ : Witness) (g : Gives (oracle (keyAt code (s .at)) (timeAt code (s .at))) witness ends out out′ h price h′) (same : length out′ ≡ length out) (values′ : List ℤ) (x : length values′ ≡ length values) where
+      module _ (out′ : List ℕ) (price : Value) (h′ : Witness) (g : Gives (oracle (keyAt code (s .at)) (timeAt code (s .at))) witness ends out out′ h price h′)
+          (same : length out′ ≡ length out) (values′ : List ℤ) (x : length values′ ≡ length values) where
         moves : Moves (commandAt code (p .spot .at)) (h .left) (h .checks) (h′ .left) (h′ .checks) out out′
-        moves = oracle-moves (commandAt code (p .spot .at)) (h .left) (h .checks) (h′ .left) (h′ .checks) out out′ (p .oracular) (record { fewer = g .fewer; more = g .more; counted-in = g .one; kept = g .kept })
+        moves = oracle-moves (commandAt code (p .spot .at)) (h .left) (h .checks) (h′ .left) (h′ .checks) out out′ (p .oracular)
+            (record { fewer = g .fewer; more = g .more; counted-in = g .one; kept = g .kept })
 
-        acts : (t : Turn) → ((st : State) → runOf values′ indexes st t ≡ pushValue (valuesIn values (s .values)) (indexesIn indexes (s .indexes)) (outcome price st))
+        acts : (t : Turn)
+            → ((st : State) → runOf values′ indexes st t ≡ pushValue (valuesIn values (s .values)) (indexesIn indexes (s .indexes)) (outcome price st))
             → runOf values′ indexes (stateOf witness ends out′ (h′ .left) (h′ .checks)) t
-            ≡ act env (commandAt code (p .spot .at)) (operandsAt code (p .spot .at)) (valuesIn (p .values₀) (p .spot .values)) (indexesIn (p .indexes₀) (p .spot .indexes)) (stateOf witness ends out (h .left) (h .checks))
+            ≡ act env (commandAt code (p .spot .at)) (operandsAt code (p .spot .at)) (valuesIn (p .values₀) (p .spot .values))
+            (indexesIn (p .indexes₀) (p .spot .indexes)) (stateOf witness ends out (h .left) (h .checks))
         acts t f =
-            f (stateOf witness ends out′ (h′ .left) (h′ .checks)) ∙ ap (λ (o : Outcome ℤ). pushValue (valuesIn values (s .values)) (indexesIn indexes (s .indexes)) o) (g .gives)
+            f (stateOf witness ends out′ (h′ .left) (h′ .checks))
+            ∙ ap (λ (o : Outcome ℤ). pushValue (valuesIn values (s .values)) (indexesIn indexes (s .indexes)) o) (g .gives)
             ∙ p .runs (stateOf witness ends out (h .left) (h .checks))
 
         pub pushed-good : (r : Next) → Pushed s values values′ price r → Good out′ values′ indexes h′ r
         pushed-good (Next.Command t) f =
             let at : t .at ≡ after code (p .spot .at) = omega (arith, f .0, p .at-is, oracle-width (commandAt code (p .spot .at)) (p .oracular)) in
-            rw at (loop-next (p .loop) values′ indexes (Turn.On (t .values) (t .indexes)) moves (acts (Turn.On (t .values) (t .indexes)) (f .1 indexes)) same (t .values) (t .indexes) refl (x ∙ p .values-same) (p .indexes-same))
+            let turn : Turn = Turn.On (t .values) (t .indexes) in
+            let runs = acts turn (f .1 indexes) in
+            rw at (loop-next (p .loop) values′ indexes turn moves runs same (t .values) (t .indexes) refl (x ∙ p .values-same) (p .indexes-same))
         pushed-good (Next.Oracle t) f = absurd f
         pushed-good (Next.Ended r) f = loop-ended (p .loop) values′ indexes (Turn.Ended r) moves (acts (Turn.Ended r) (f indexes)) same r refl
 

@@ -22,8 +22,10 @@ use Rattle.witness.specs.Elements.{fewer, placed, popped, stateOf, taken
 use Rattle.witness.specs.Oracle.{Gives, Judges, Lies, Settles, afterPrice, afterSignature, afterTime, checkOf, keyAt, priced, timeAt}
 use Rattle.witness.proofs.Elements.{placeOutcome, pop-taken, taken-within}
 
--- an element is popped on the way to an oracle terminal's value, and must have a width: it lies within the bytes, and what is left to do (k) is done with it, if there is one
-module _ (w ends old : List ℕ) (sound : endsSound 0 (length w) ends ≡ true) (h : Witness) (few : h .left ≤ length ends) (width : ℕ) (absent wrong : Refusal) where
+-- an element is popped on the way to an oracle terminal's value, and must have a width:
+-- it lies within the bytes, and what is left to do (k) is done with it, if there is one
+module _ (w ends old : List ℕ) (sound : endsSound 0 (length w) ends ≡ true) (h : Witness) (few : h .left ≤ length ends) (width : ℕ)
+    (absent wrong : Refusal) where
   abbrev place : Place
   place = placed width absent wrong (popped ends (h .left))
 
@@ -78,7 +80,8 @@ module _ (code : List ℕ) (at : ℕ) (w ends old : List ℕ) (sound : endsSound
   lies-taken (Place.Refused x) h few width absent wrong = tt
 
   -- so the three of a terminal are what is judged
-  pub judges : (h : Witness) → h .left ≤ length ends → at + 40 ≤ length code → 112 * h .checks + 112 ≤ length old → (p : Place) → placed 8 Refusal.MissingPrice Refusal.Price8BytePush (popped ends (h .left)) ≡ p
+  pub judges : (h : Witness) → h .left ≤ length ends → at + 40 ≤ length code → 112 * h .checks + 112 ≤ length old → (p : Place)
+      → placed 8 Refusal.MissingPrice Refusal.Price8BytePush (popped ends (h .left)) ≡ p
       → Judges code at w old (after₃ p h .checks) p (timeOf p (fewer h)) (signatureOf (timeOf p (fewer h)) (after₂ p h))
   judges h few operands room p e =
       let few₁ : fewer h .left ≤ length ends = omega (arith, few) in
@@ -88,22 +91,28 @@ module _ (code : List ℕ) (at : ℕ) (w ends old : List ℕ) (sound : endsSound
         room = rw same room;
         price-lies = lies w ends old sound h few 8 Refusal.MissingPrice Refusal.Price8BytePush p e;
         time-lies = lies-taken p (fewer h) few₁ 8 Refusal.MissingTimestamp Refusal.Timstamp8BytePush;
-        signature-lies = lies-taken (timeOf p (fewer h)) (after₂ p h) (few-taken p (fewer h) (length ends) few₁) 64 Refusal.MissingOracleSignature Refusal.MalformedSig;
+        signature-lies =
+            lies-taken (timeOf p (fewer h)) (after₂ p h) (few-taken p (fewer h) (length ends) few₁) 64 Refusal.MissingOracleSignature Refusal.MalformedSig;
       }
 
   -- what is judged of them is what the terminal gives
   module _ (new : List ℕ) (r : Judged) where
-    third : (p t : ℕ) (h : Witness) → h .left ≤ length ends → (s : Place) → signatureOf (Place.At t) h ≡ s → Settles code at w old new (h .checks) r (Place.At p) (Place.At t) s
+    third : (p t : ℕ) (h : Witness) → h .left ≤ length ends → (s : Place) → signatureOf (Place.At t) h ≡ s
+        → Settles code at w old new (h .checks) r (Place.At p) (Place.At t) s
         → Gives (afterTime key time (take 8 (drop p w)) (take 8 (drop t w))) w ends old new h (r .value) (record { left = h .left - 1; checks = r .checks })
     third p t h few (Place.At q) e g =
-        pops-found w ends old sound h few 64 Refusal.MissingOracleSignature Refusal.MalformedSig (afterSignature key time (take 8 (drop p w)) (take 8 (drop t w))) new q (r .value) _ e (g ends (h .left - 1))
+        pops-found w ends old sound h few 64 Refusal.MissingOracleSignature Refusal.MalformedSig
+        (afterSignature key time (take 8 (drop p w)) (take 8 (drop t w))) new q (r .value) _ e (g ends (h .left - 1))
     third p t h few (Place.Refused x) e g =
-        rw (g .0, g .1) (pops-refused w ends old sound h few 64 Refusal.MissingOracleSignature Refusal.MalformedSig (afterSignature key time (take 8 (drop p w)) (take 8 (drop t w))) x e)
+        let rest = afterSignature key time (take 8 (drop p w)) (take 8 (drop t w)) in
+        rw (g .0, g .1) (pops-refused w ends old sound h few 64 Refusal.MissingOracleSignature Refusal.MalformedSig rest x e)
 
-    second : (p : ℕ) (h : Witness) → h .left ≤ length ends → (t : Place) → timeOf (Place.At p) h ≡ t → Settles code at w old new (takenWitness t (fewer h) .checks) r (Place.At p) t (signatureOf t (fewer h))
+    second : (p : ℕ) (h : Witness) → h .left ≤ length ends → (t : Place) → timeOf (Place.At p) h ≡ t
+        → Settles code at w old new (takenWitness t (fewer h) .checks) r (Place.At p) t (signatureOf t (fewer h))
         → Gives (afterPrice key time (take 8 (drop p w))) w ends old new h (r .value) (record { left = takenWitness t (fewer h) .left; checks = r .checks })
     second p h few (Place.At t) e g =
-        pops-found w ends old sound h few 8 Refusal.MissingTimestamp Refusal.Timstamp8BytePush (afterTime key time (take 8 (drop p w))) new t (r .value) _ e (third p t (fewer h) (omega (arith, few)) _ refl g)
+        pops-found w ends old sound h few 8 Refusal.MissingTimestamp Refusal.Timstamp8BytePush (afterTime key time (take 8 (drop p w))) new t (r .value) _ e
+        (third p t (fewer h) (omega (arith, few)) _ refl g)
     second p h few (Place.Refused x) e g =
         rw (g .0, g .1) (pops-refused w ends old sound h few 8 Refusal.MissingTimestamp Refusal.Timstamp8BytePush (afterTime key time (take 8 (drop p w))) x e)
 
@@ -112,7 +121,8 @@ module _ (code : List ℕ) (at : ℕ) (w ends old : List ℕ) (sound : endsSound
         → Gives (oracle key time) w ends old new h (r .value) (record { left = after₃ p h .left; checks = r .checks })
     unfolding oracle
     first h few (Place.At p) e g =
-        pops-found w ends old sound h few 8 Refusal.MissingPrice Refusal.Price8BytePush (afterPrice key time) new p (r .value) _ e (second p (fewer h) (omega (arith, few)) _ refl g)
+        pops-found w ends old sound h few 8 Refusal.MissingPrice Refusal.Price8BytePush (afterPrice key time) new p (r .value) _ e
+        (second p (fewer h) (omega (arith, few)) _ refl g)
     first h few (Place.Refused x) e g =
         rw (g .0, g .1) (pops-refused w ends old sound h few 8 Refusal.MissingPrice Refusal.Price8BytePush (afterPrice key time) x e)
 
@@ -131,7 +141,8 @@ check-is code at t w p q r =
 -- three copies, one behind the other
 grown : (x d s : List ℕ) (b m : ℕ) → length x ≡ b → paste (x ++ drop b d) b s m ≡ x ++ take m s ++ drop (b + m) d
 grown x d s b m e =
-    let f : drop (b + m) (x ++ drop b d) ≡ drop (b + m) d = sym (drop-drop m b (x ++ drop b d)) ∙ ap (λ (l : List ℕ). drop m l) (drop-at x (drop b d) b e) ∙ drop-drop m b d in
+    let f : drop (b + m) (x ++ drop b d) ≡ drop (b + m) d =
+    sym (drop-drop m b (x ++ drop b d)) ∙ ap (λ (l : List ℕ). drop m l) (drop-at x (drop b d) b e) ∙ drop-drop m b d in
     rw (take-at x (drop b d) b e, f)
 
 pub three-copies : (d a b c : List ℕ) (o : ℕ) → o ≤ length d → 40 ≤ length a → 8 ≤ length b
