@@ -1,9 +1,9 @@
 -- `run`: w, the witness's record, and a spot are made, and the loop is turned.
 -- A turn lends vals and idxs to `fetch`. By what is next, the spot is the command's, for the next turn; or the verdict is returned with what w counts;
 -- or an oracle terminal is asked: out and w are lent to `ask`, and vals to `pushed`, whose step again is a spot for the next turn, or a verdict.
--- To change: with a parameter, `ways`, the positions, the names before `site` and those at the end follow the function's;
--- a `&mut` that is lent to `fetch` is lent and comes back in `turn` as vals does, and stands in `Point`, `Rest` and `returns-within`.
--- Another type of a slice's elements: its row in `ways` and where it is lent, and the type of the list in `Point`.
+-- To change with a parameter: the numbers below, `ways`, `site` with the names before it, and `run-meets`. With a `&mut` that is lent to `fetch` also `Point`
+-- and its three records, `kept`, and `turn`, which lends it and has it back as it does vals.
+-- To change with the type of a slice's elements: `ways`, where the slice is lent, and the type of its list before `site` and in `Point`.
 mod Plain
 use mathlib.Core.Path.{_≡_, refl}
 use mathlib.Core.WellFounded.{InvImage·wf}
@@ -51,7 +51,7 @@ use Rattle.walks.proofs.Loans.{lends-slice, lent-slice, slice-back, lends-local
 use Rattle.walks.proofs.Match.{matches, armAt, restOf}
 use Rattle.walks.proofs.Turn.{Turn, turns}
 use Rattle.walks.proofs.Assign.{sets, sets-last}
-use Rattle.walks.proofs.Walk.{Ways, value, shared, kept-slice, Site, arg, rel, Begins, Related, After, Had, entries, values, returns-within, proves}
+use Rattle.walks.proofs.Walk.{Ways, value, shared, kept-slice, Site, arg, rel, Begins, Related, After, Finals, Had, entries, values, returns-within, proves}
 use Rattle.witness.specs.declared.Witness.{Witness}
 use Rattle.witness.specs.Oracle.{Gives, keyAt, timeAt}
 use Rattle.witness.proofs.Plain.{of-witness, witness, value as price}
@@ -87,7 +87,8 @@ use Rattle.evaluation.proofs.run.run.Statement as stated
 use Rattle.evaluation.proofs.run.run.Code as the-code
 use Rattle.evaluation.proofs.run.run.Code.Mir as mir
 
--- positions: the tokens of the lifetimes, then what each parameter owns. `all` is their number: what a loan adds stands behind
+-- ---- numbers
+-- entries: the tokens of the lifetimes, then what each parameter owns. `all` is their number: what a loan adds stands behind
 abbrev κ-out : ℕ
 κ-out = 11
 
@@ -124,6 +125,29 @@ tokens-of-fetch = 0 ∷ 1 ∷ 2 ∷ 3 ∷ 4 ∷ 5 ∷ 6 ∷ 7 ∷ 8 ∷ κ-vals 
 -- what is kept of out stands first behind the others, then w as it is lent, and its token
 abbrev tokens-of-ask : List ℕ
 tokens-of-ask = 0 ∷ 9 ∷ 10 ∷ κ-out ∷ (all + 2) ∷ []
+
+-- locals: w, the spot, and what `fetch` and `pushed` answer. Those behind the spot are empty between the turns
+abbrev w-local : ℕ
+w-local = 16
+
+abbrev spot-local : ℕ
+spot-local = 17
+
+abbrev next-local : ℕ
+next-local = 25
+
+abbrev step-local : ℕ
+step-local = 33
+
+abbrev locals : ℕ
+locals = length mir.locals
+
+-- statements: the two matches
+abbrev by-next : Body
+by-next = restOf 5 mir.turn-1
+
+abbrev by-step : Body
+by-step = restOf 8 (armAt 1 by-next)
 
 abbrev ways : Ways (f.ended .signature .params) (f.ended .kept)
 ways = shared 0 tt u8 & shared 1 tt u64 & shared 2 tt u8 & shared 3 tt u64 & shared 4 tt u8 & shared 5 tt u64 & shared 6 tt u8 & shared 7 tt u64
@@ -182,10 +206,13 @@ module _ {M : Type 1} (𝓤 : URA M) (H : Heap 𝓤) (A : Atoms 𝓤) (W : Given
 
   -- what the locals hold, and the entries behind them
   abbrev held : Point → Spot → List Held
-  held p here = put 16 (holds (witness .val (p .w))) (put 17 (holds (spot .val here)) (entry mir.locals (values site)))
+  held p here = put w-local (holds (witness .val (p .w))) (put spot-local (holds (spot .val here)) (entry mir.locals (values site)))
+
+  abbrev kept : Point → Finals site
+  kept p = p .outs & p .values & p .indexes & tt
 
   abbrev Rest : Point → List (Item 𝓤)
-  Rest p = entries (Had site (p .outs & p .values & p .indexes & tt))
+  Rest p = entries (Had site (kept p))
 
   abbrev Inv : State → List (Item 𝓤)
   Inv t = ‵ (Frame E (held (t .at) (t .here))) ∷ Rest (t .at)
@@ -208,38 +235,38 @@ module _ {M : Type 1} (𝓤 : URA M) (H : Heap 𝓤) (A : Atoms 𝓤) (W : Given
       (t : State) (q : Post 𝓤 H) (go : Turn W ≺ Inv E (After site H A) t q) where
     -- the match on what `pushed` has answered
     stepped : (p : Point) (r : Step) → Is Q.the-row r (step .val r ∷ []) → Kept p (nextAfter r) → left (nextAfter r) < left (Next.Command (t .here))
-        → Runs (Answered 33 (step .val r) p (t .here)) (restOf 8 (armAt 1 (restOf 5 mir.turn-1))) q
+        → Runs (Answered step-local (step .val r) p (t .here)) by-step q
     stepped p (Step.On s) is-r good falls =
         let is-s = EL.owed Q.the-type Q′.the-laws (Step.On s) _ is-r .0 in
-        matches ! refl refl $ sets ! refl (shaped spot W s is-s) $ sets-last ! refl (shaped spot W s is-s) $ clears ! 18 40 $
+        matches ! refl refl $ sets ! refl (shaped spot W s is-s) $ sets-last ! refl (shaped spot W s is-s) $ clears ! (spot-local + 1) locals $
         go .on (record { at = p; here = s; good = good; is-here = is-s }) falls
     stepped p (Step.Ended v) is-r good falls =
         let is-v = EL.owed Q.the-type Q′.the-laws (Step.Ended v) _ is-r .0 in
         let is-e = is-outcome p v is-v in
         matches ! refl refl $ sets ! refl (shaped verdict W v is-v) $ sets ! refl tt $ sets ! refl tt $ sets ! refl (shaped evaluated W (outcome p v) is-e) $
-        returns-within ! site (go .out) evaluated (outcome p v) is-e (p .outs & p .values & p .indexes & tt) (shown W good) refl
+        returns-within ! site (go .out) evaluated (outcome p v) is-e (kept p) (shown W good) refl
 
     -- an oracle terminal: `ask`, then `pushed`
     asked : (p : Point) (s : Spot) → Is S.the-row s (spot .val s ∷ []) → Kept p (Next.Oracle s) → left (Next.Oracle s) < left (Next.Command (t .here))
-        → Runs (Answered 25 (next .val (Next.Oracle s)) p (t .here)) (restOf 5 mir.turn-1) q
+        → Runs (Answered next-local (next .val (Next.Oracle s)) p (t .here)) by-next q
     asked p s is-s good falls =
         let asks = paused-asks env (code .now) (bytes .now) (ends .now) (out .now) sound (p .outs) (p .values) (p .indexes) (p .w) s good in
         let room = paused-room env (code .now) (bytes .now) (ends .now) (out .now) sound (p .outs) (p .values) (p .indexes) (p .w) s good in
         let at-fits = LL.owed S.the-type S′.the-laws s _ is-s .0 in
         matches ! refl refl $ sets ! refl (shaped spot W s is-s) $
         lends-slice ! u8 #out κ-out (at-last out (p .outs)) (length (out .now)) refl (λ out-loan. sets ! refl tt $ sets ! refl tt $
-        lends-local of-witness ! 16 (p .w) (p .is-w) refl refl (λ w-loan. sets ! refl tt $
-        calls ! known-ask tokens-of-ask (code & s .at & bytes & ends & lent-slice out-loan & lent-local w-loan (l 16) (p .w) & tt)
+        lends-local of-witness ! w-local (p .w) (p .is-w) refl refl (λ w-loan. sets ! refl tt $
+        calls ! known-ask tokens-of-ask (code & s .at & bytes & ends & lent-slice out-loan & lent-local w-loan (l w-local) (p .w) & tt)
         (copied #code ∷ datum (number w64) (s .at) at-fits ∷ copied #bytes ∷ copied #ends ∷ given #out ∷ given (all + 1) ∷ [])
         (λ x u. Gives (oracle (keyAt (code .now) (s .at)) (timeAt (code .now) (s .at))) (bytes .now) (ends .now) (p .outs) (u .0) (p .w) x (u .1 .0)) refl
         (tt, tt, shown W asks) (λ x u. refl) price (λ x u is-x gives.
-        local-back of-witness ! w-loan 16 (all + 1) (u .1 .0) _ refl refl refl (λ is-w.
+        local-back of-witness ! w-loan w-local (all + 1) (u .1 .0) _ refl refl refl (λ is-w.
         slice-back ! out-loan #out κ-out all (u .0) _ refl (λ same-out.
         lends-slice ! i64 #vals κ-vals (at-last vals (p .values)) (length (vals .now)) refl (λ vals-loan. sets ! refl tt $ sets ! refl tt $
         calls ! known-pushed (κ-vals ∷ []) (lent-slice vals-loan & x & s & tt) (given #vals ∷ datum price x is-x ∷ datum spot s is-s ∷ [])
         (λ r v. Pushed s (p .values) (v .0) x (nextAfter r)) refl
         (tt, tt, shown W (room, omega (arith, short, asks .operands))) (λ r v. refl) step (λ r v is-r pushes.
-        slice-back ! vals-loan #vals κ-vals all (v .0) _ refl (λ same-vals. clears ! 18 33 $ clears ! 34 40 $
+        slice-back ! vals-loan #vals κ-vals all (v .0) _ refl (λ same-vals. clears ! (spot-local + 1) step-local $ clears ! (step-local + 1) locals $
         stepped (record { outs = u .0; values = v .0; indexes = p .indexes; w = u .1 .0; is-w = is-w }) r is-r
         (pushed-good env (code .now) (bytes .now) (ends .now) (out .now) sound (p .outs) (p .values) (p .indexes) (p .w) s good
         (u .0) x (u .1 .0) gives same-out (v .0) same-vals (nextAfter r) pushes)
@@ -248,17 +275,17 @@ module _ {M : Type 1} (𝓤 : URA M) (H : Heap 𝓤) (A : Atoms 𝓤) (W : Given
 
     -- the match on what `fetch` has answered
     fetched : (p : Point) (r : Next) → Is N.the-row r (next .val r ∷ []) → Kept p r → left r < left (Next.Command (t .here))
-        → Runs (Answered 25 (next .val r) p (t .here)) (restOf 5 mir.turn-1) q
+        → Runs (Answered next-local (next .val r) p (t .here)) by-next q
     fetched p (Next.Command s) is-r good falls =
         let is-s = EL.owed N.the-type N′.the-laws (Next.Command s) _ is-r .0 in
-        matches ! refl refl $ sets ! refl (shaped spot W s is-s) $ sets-last ! refl (shaped spot W s is-s) $ clears ! 18 40 $
+        matches ! refl refl $ sets ! refl (shaped spot W s is-s) $ sets-last ! refl (shaped spot W s is-s) $ clears ! (spot-local + 1) locals $
         go .on (record { at = p; here = s; good = good; is-here = is-s }) falls
     fetched p (Next.Oracle s) is-r good falls = asked p s (EL.owed N.the-type N′.the-laws (Next.Oracle s) _ is-r .0) good falls
     fetched p (Next.Ended v) is-r good falls =
         let is-v = EL.owed N.the-type N′.the-laws (Next.Ended v) _ is-r .0 in
         let is-e = is-outcome p v is-v in
         matches ! refl refl $ sets ! refl (shaped verdict W v is-v) $ sets ! refl tt $ sets ! refl tt $ sets ! refl (shaped evaluated W (outcome p v) is-e) $
-        returns-within ! site (go .out) evaluated (outcome p v) is-e (p .outs & p .values & p .indexes & tt) (shown W good) refl
+        returns-within ! site (go .out) evaluated (outcome p v) is-e (kept p) (shown W good) refl
 
     turn : Runs (Inv t) mir.turn-1 q
     turn =
@@ -274,7 +301,7 @@ module _ {M : Type 1} (𝓤 : URA M) (H : Heap 𝓤) (A : Atoms 𝓤) (W : Given
         (tt, tt, shown W (fetches env (code .now) (bytes .now) (ends .now) (out .now) sound (p .outs) (p .values) (p .indexes) (p .w) (t .here) (t .good)))
         (λ r u. refl) next (λ r u is-r told.
         slice-back ! idxs-loan #idxs κ-idxs (all + 1) (u .1 .0) _ refl (λ same-idxs.
-        slice-back ! vals-loan #vals κ-vals all (u .0) _ refl (λ same-vals. clears ! 26 40 $
+        slice-back ! vals-loan #vals κ-vals all (u .0) _ refl (λ same-vals. clears ! (next-local + 1) locals $
         fetched (record { outs = p .outs; values = u .0; indexes = u .1 .0; w = p .w; is-w = p .is-w }) r is-r
         (fetched-good env (code .now) (bytes .now) (ends .now) (out .now) sound (p .outs) (p .values) (p .indexes) (p .w) (t .here) (t .good)
         (u .0) (u .1 .0) same-vals same-idxs r told)
@@ -289,7 +316,7 @@ module _ {M : Type 1} (𝓤 : URA M) (H : Heap 𝓤) (A : Atoms 𝓤) (W : Given
       let spot₀ : Spot = record { at = 0; values = 0; indexes = 0 } in
       let ends-fit = rel site are 11 .0 .1 .0 in
       let is-w₀ = LL.owes T.the-type T′.the-laws w₀ ((refl, ends-fit), ((refl, lit< tt), tt)) in
-      sets ! refl tt $ sets ! refl tt $ sets ! refl tt $ clears ! 18 40 $
+      sets ! refl tt $ sets ! refl tt $ sets ! refl tt $ clears ! (spot-local + 1) locals $
       turns ! 𝓣 ≺ (InvImage·wf (λ (t : State). left (Next.Command (t .here))) (Nat·lt-wfRel .wf)) Inv (turn sound (rel site are 0 .0 .1 .0)) (record {
         at = record { outs = out .now; values = vals .now; indexes = idxs .now; w = w₀; is-w = is-w₀ };
         here = spot₀;
