@@ -71,12 +71,15 @@ module _ {M : Type 1} (𝓤 : URA M) (H : Heap 𝓤) (A : Atoms 𝓤) (W : Given
       let w : RefT Witness = arg s 0 in
       let ends : RefT (List ℕ) = arg s 1 in
       let n : ℕ = w .now .left in
+      -- the count
       gets of-witness ! #w κ-w w refl tt (λ is-w.
       let fits = LL.owed T.the-type T′.the-laws (w .now) _ is-w in
+      -- one less, if there is one, is stored
       calls ! known-lowered [] (n & tt) (datum (number w64) n (fits .0) ∷ [])
       (λ m _. m ≡ n - 1) refl (tt, tt, id⊢ 𝓤 _) (λ m _. refl) (number w64) (λ m _ is-m is-less.
       let h : Witness = record { left = m; checks = w .now .checks } in
       puts of-witness ! #w κ-w w h (LL.owes T.the-type T′.the-laws h (is-m, fits .1)) refl refl refl tt $
+      -- the element
       calls ! known-last-of (κ-ends ∷ []) (ends & n & tt) (copied #ends ∷ datum (number w64) n (fits .0) ∷ [])
       (λ r _. r ≡ popped (ends .now) n) refl (tt, tt, shown W within) (λ r _. refl) element (λ r _ is-r is-last.
       returns ! s element r is-r (h & tt) (shown W (is-last, λ i. record { left = is-less i; checks = w .now .checks })) refl)))

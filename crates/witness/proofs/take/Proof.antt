@@ -74,6 +74,7 @@ module _ {M : Type 1} (𝓤 : URA M) (H : Heap 𝓤) (A : Atoms 𝓤) (W : Given
 
     walk : (t : Place) → Related (site t) → w .now .left ≤ length (ends .now) → Begins (site t) W code.function 𝓣 l
     walk (Place.Refused z) are within =
+        -- the refusal is given back, and w is as it was
         let t : Place = Place.Refused z in
         let is-t = rel (site t) are 2 in
         matches-then ! refl refl $ sets ! refl (shaped place W t is-t) $ sets ! refl (shaped place W t is-t) $ gives-up ! T.the-row #w w refl $
@@ -81,9 +82,11 @@ module _ {M : Type 1} (𝓤 : URA M) (H : Heap 𝓤) (A : Atoms 𝓤) (W : Given
     walk (Place.At z) are within =
         let is-x = rel (site (Place.At z)) are 4 in
         let is-y = rel (site (Place.At z)) are 5 in
+        -- the element is popped
         matches-then ! refl refl $ sets ! refl tt $
         calls ! known-pop (κ-w ∷ κ-ends ∷ []) (w & ends & tt) (given #w ∷ copied #ends ∷ [])
         (λ r u. (r ≡ popped (ends .now) (w .now .left)) × (u .0 ≡ fewer (w .now))) refl (tt, tt, shown W within) (λ r u. refl) element (λ r u is-r pops.
+        -- and placed
         calls ! known-place-of [] (r & n & x & y & tt) (datum element r is-r ∷ copied #width ∷ datum refusal x is-x ∷ datum refusal y is-y ∷ [])
         (λ p _. p ≡ placed n x y r) refl (tt, tt, id⊢ 𝓤 _) (λ p _. refl) place (λ p _ is-p places.
         sets ! refl (shaped place W p is-p) $

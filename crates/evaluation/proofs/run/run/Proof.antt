@@ -287,6 +287,7 @@ module _ {M : Type 1} (𝓤 : URA M) (H : Heap 𝓤) (A : Atoms 𝓤) (W : Given
         matches ! refl refl $ sets ! refl (shaped verdict W v is-v) $ sets ! refl tt $ sets ! refl tt $ sets ! refl (shaped evaluated W (outcome p v) is-e) $
         returns-within ! site (go .out) evaluated (outcome p v) is-e (kept p) (shown W good) refl
 
+    -- `fetch`, and what it is lent
     turn : Runs (Inv t) mir.turn-1 q
     turn =
         let p : Point = t .at in
@@ -308,7 +309,7 @@ module _ {M : Type 1} (𝓤 : URA M) (H : Heap 𝓤) (A : Atoms 𝓤) (W : Given
         (fetched-falls env (code .now) (bytes .now) (ends .now) (out .now) sound (p .outs) (p .values) (p .indexes) (p .w) (t .here) (t .good)
         (u .0) (u .1 .0) r told))))))
 
-  -- ---- the whole
+  -- ---- the whole: w and the spot are made, and the loop is turned
   walk : Related site → endsSound 0 (length (bytes .now)) (ends .now) ≡ true → Fits (code .now) (vals .now) (idxs .now) (out .now)
       → Begins site W the-code.function 𝓣 l
   walk are sound fits =
