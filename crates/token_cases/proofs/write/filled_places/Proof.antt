@@ -1,0 +1,12 @@
+-- The array is the fill throughout.
+use mathlib.Core.Path.{refl}
+use Rattle.cases.specs.Known.{fresh}
+use Rattle.token_cases.proofs.write.filled_places.Statement.{statement}
+use Rattle.token_cases.proofs.write.filled_places.Tie as tie
+
+returns : tie.Need-returns
+unfolding fresh
+returns c = refl
+
+pub filled-places-spec : {M : Type 1} → statement M
+filled-places-spec = tie.close (tie.spec returns)
