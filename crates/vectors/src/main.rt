@@ -1,13 +1,9 @@
 // Replays the cases of data/cases: makes each call at the unit's boundary, and compares every number, datum, count and byte with the known answer. It stops at
 // the first case that differs.
-mod case;
-mod decode;
-mod evaluate;
-mod write;
-
-use case::part;
-use case::word;
+use cases::between;
+use cases::number;
 use libc::STDOUT_FILENO;
+ghost use Rattle.vectors.specs.Agreement.{Replayed};
 
 // What came of reading and replaying the next case.
 enum Outcome {
@@ -16,18 +12,14 @@ enum Outcome {
     End,
 }
 
-fn check_agrees(body: &[u8]) -> bool {
-    let a = covenant::covenant_check(part(body, 0));
-    let known = part(body, 1);
-    a.number as u64 == word(known, 0) && a.place == word(known, 1)
-}
-
-fn agrees(call: u8, body: &[u8]) -> bool {
+fn agrees(call: u8, body: &[u8]) -> bool
+    ensures { λ r. ⌜ Replayed call (now (body .entry)) r ⌝ }
+{
     match call {
-        1 => check_agrees(body),
-        2 => evaluate::agrees(body),
-        3 => write::agrees(body),
-        4 => decode::agrees(body),
+        1 => condition_cases::check::agrees(body),
+        2 => condition_cases::evaluate::agrees(body),
+        3 => token_cases::write::agrees(body),
+        4 => token_cases::decode::agrees(body),
         _ => false,
     }
 }
@@ -45,7 +37,7 @@ fn replay(body: &[u8], n: usize) -> Outcome {
         return Outcome::End;
     }
     let call = body[0];
-    if agrees(call, case::between(body, 0, n)) {
+    if agrees(call, between(body, 0, n)) {
         return Outcome::Agrees(call);
     }
     Outcome::Differs(call)
@@ -56,7 +48,7 @@ fn next(fd: i32, body: &mut [u8]) -> Outcome {
     if io::read_full(fd, &mut head) != 4 {
         return Outcome::End;
     }
-    let n = case::number(&head, 0) as usize;
+    let n = number(&head, 0) as usize;
     if load(fd, body, n) {
         return replay(body, n);
     }
