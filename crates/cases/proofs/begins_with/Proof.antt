@@ -1,7 +1,8 @@
 -- The invariant: what is said from here on is what is said of the whole; the measure is how many numbers are left.
 use borrow.Author.Needs.{needs}
-use Prim.Native.Nat.{_-_, _*_}
+use Prim.Native.Nat.{_-_, _*_, _<_}
 use mathlib.Core.Path.{_≡_, refl, sym, _∙_}
+use native.Mathlib.Omega.{arith}
 use lib.ListN.{length, drop}
 use Rattle.cases.specs.Known.{begins}
 use Rattle.cases.proofs.Comparing.{begins-other, begins-past, begins-same}
@@ -18,21 +19,21 @@ returns : tie.Need-returns Inv-loop μ-loop
 returns c =
     let l = c .before .before .before .before in
     let a = l .before .before .before .args in
-    let t = c .before .before .before .loop-test .taken in
+    let t : l .loop .i < length (a .numbers .now) = omega arith in
     sym (l .loop .inv ∙ begins-other (a .part .now) (a .numbers .now) (l .loop .i) t (λ e. c .if1 .taken (e ∙ sym (c .before .word .ensures))))
 
 loop-again : tie.Need-loop-again Inv-loop μ-loop
 loop-again c =
     let l = c .before .before .before .before in
     let a = l .before .before .before .args in
-    let t = c .before .before .before .loop-test .taken in
+    let t : l .loop .i < length (a .numbers .now) = omega arith in
     l .loop .inv ∙ begins-same (a .part .now) (a .numbers .now) (l .loop .i) t (c .if1 .left ∙ c .before .word .ensures)
 
 returns-2 : tie.Need-returns-2 Inv-loop μ-loop
 returns-2 c =
     let l = c .before in
     let a = l .before .before .before .args in
-    sym (l .loop .inv ∙ begins-past (a .part .now) (a .numbers .now) (l .loop .i) (c .loop-test .left))
+    sym (l .loop .inv ∙ begins-past (a .part .now) (a .numbers .now) (l .loop .i) (omega arith))
 
 pub begins-with-spec : {M : Type 1} → statement M
 begins-with-spec =

@@ -1,6 +1,6 @@
 -- The invariant: what is said from here on is what is said of the whole; the measure is how many bytes are left.
 use borrow.Author.Needs.{needs}
-use Prim.Native.Nat.{_-_, _≤_}
+use Prim.Native.Nat.{_-_, _≤_, _<_}
 use mathlib.Core.Path.{_≡_, refl, sym, _∙_}
 use mathlib.Core.Logic.{⊎-elim}
 use native.Mathlib.Omega.{arith}
@@ -32,21 +32,21 @@ returns-2 : tie.Need-returns-2 Inv-loop μ-loop
 returns-2 c =
     let l = c .before .before .before .before in
     let a = l .before .before .args in
-    let t = c .before .before .before .loop-test .taken in
+    let t : l .loop .i < length (a .buffer .now) = omega arith in
     sym (l .loop .inv .1 ∙ held-other (a .fill) (a .bytes .now) (a .buffer .now) (l .loop .i) t (λ e. c .if3 .taken (e ∙ sym (known-is (c .before .before)))))
 
 loop-again : tie.Need-loop-again Inv-loop μ-loop
 loop-again c =
     let l = c .before .before .before .before in
     let a = l .before .before .args in
-    let t = c .before .before .before .loop-test .taken in
+    let t : l .loop .i < length (a .buffer .now) = omega arith in
     (l .loop .inv .0, l .loop .inv .1 ∙ held-same (a .fill) (a .bytes .now) (a .buffer .now) (l .loop .i) t (c .if3 .left ∙ known-is (c .before .before)))
 
 returns-3 : tie.Need-returns-3 Inv-loop μ-loop
 returns-3 c =
     let l = c .before in
     let a = l .before .before .args in
-    sym (l .loop .inv .1 ∙ held-end (a .fill) (a .bytes .now) (a .buffer .now) (l .loop .i) (omega arith) (c .loop-test .left))
+    sym (l .loop .inv .1 ∙ held-end (a .fill) (a .bytes .now) (a .buffer .now) (l .loop .i) (omega arith) (omega arith))
 
 pub holds-spec : {M : Type 1} → statement M
 holds-spec =

@@ -38,7 +38,7 @@ returns-2 c =
     let l = c .before .before .before .before in
     let a = l .before .before .before .before .args in
     let ws = wordsOf (a .part .now) in
-    let t = c .before .before .before .loop-test .taken in
+    let t : l .loop .k < length (a .buffer .now) = omega arith in
     sym (l .loop .inv .1 ∙ held-other (a .fill) ws (a .buffer .now) (l .loop .k) t (λ e. c .if3 .taken (e ∙ sym (known-is (c .before .before)))))
 
 loop-again : tie.Need-loop-again Inv-loop μ-loop
@@ -46,7 +46,7 @@ loop-again c =
     let l = c .before .before .before .before in
     let a = l .before .before .before .before .args in
     let ws = wordsOf (a .part .now) in
-    let t = c .before .before .before .loop-test .taken in
+    let t : l .loop .k < length (a .buffer .now) = omega arith in
     (l .loop .inv .0, l .loop .inv .1 ∙ held-same (a .fill) ws (a .buffer .now) (l .loop .k) t (c .if3 .left ∙ known-is (c .before .before)))
 
 returns-3 : tie.Need-returns-3 Inv-loop μ-loop
@@ -54,7 +54,7 @@ returns-3 c =
     let l = c .before in
     let a = l .before .before .before .before .args in
     let h : length (wordsOf (a .part .now)) ≤ l .loop .k = rw length-numbers (omega arith) in
-    sym (l .loop .inv .1 ∙ held-end (a .fill) (wordsOf (a .part .now)) (a .buffer .now) (l .loop .k) h (c .loop-test .left))
+    sym (l .loop .inv .1 ∙ held-end (a .fill) (wordsOf (a .part .now)) (a .buffer .now) (l .loop .k) h (omega arith))
 
 pub holds-words-spec : {M : Type 1} → statement M
 holds-words-spec =

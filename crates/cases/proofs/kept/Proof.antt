@@ -1,7 +1,8 @@
 -- The invariant: what is said from here on is what is said of the whole; the measure is how many bytes are left.
 use borrow.Author.Needs.{needs}
-use Prim.Native.Nat.{_-_}
+use Prim.Native.Nat.{_-_, _≤_, _<_}
 use mathlib.Core.Path.{_≡_, refl, sym, _∙_}
+use native.Mathlib.Omega.{arith}
 use lib.ListN.{length, drop}
 use Rattle.cases.specs.Known.{filled}
 use Rattle.cases.proofs.Comparing.{filled-other, filled-past, filled-same}
@@ -17,17 +18,23 @@ abbrev μ-loop : tie.MeasureT-loop
 returns : tie.Need-returns Inv-loop μ-loop
 returns c =
     let l = c .before .before .before in
-    sym (l .loop .inv ∙ filled-other _ (l .before .args .buffer .now) (l .loop .at) (c .before .before .loop-test .taken) (c .if1 .taken))
+    let buffer = l .before .args .buffer .now in
+    let t : l .loop .at < length buffer = omega arith in
+    sym (l .loop .inv ∙ filled-other _ buffer (l .loop .at) t (c .if1 .taken))
 
 loop-again : tie.Need-loop-again Inv-loop μ-loop
 loop-again c =
     let l = c .before .before .before in
-    l .loop .inv ∙ filled-same _ (l .before .args .buffer .now) (l .loop .at) (c .before .before .loop-test .taken) (c .if1 .left)
+    let buffer = l .before .args .buffer .now in
+    let t : l .loop .at < length buffer = omega arith in
+    l .loop .inv ∙ filled-same _ buffer (l .loop .at) t (c .if1 .left)
 
 returns-2 : tie.Need-returns-2 Inv-loop μ-loop
 returns-2 c =
     let l = c .before in
-    sym (l .loop .inv ∙ filled-past _ (l .before .args .buffer .now) (l .loop .at) (c .loop-test .left))
+    let buffer = l .before .args .buffer .now in
+    let t : length buffer ≤ l .loop .at = omega arith in
+    sym (l .loop .inv ∙ filled-past _ buffer (l .loop .at) t)
 
 pub kept-spec : {M : Type 1} → statement M
 kept-spec =

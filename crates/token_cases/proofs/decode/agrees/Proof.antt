@@ -1,5 +1,6 @@
 -- The call is made where there is room, and all that it left is compared (`decode-compared`).
 use borrow.Author.Needs.{needs}
+use Prim.Native.Nat.{_≤_, _<_}
 use mathlib.Core.Bool.{_&&_}
 use mathlib.Core.List.{[], _∷_, _++_}
 use mathlib.Core.Path.{_≡_, sym, ap, _∙_}
@@ -33,19 +34,22 @@ after : (c : tie.After-called)
     && held fill (partOf body 5) (c .called .last .1 .0 ++ drop room (c .before .before .before .before .before .filled .result)))
 after c =
     let p = c .before .before .before .before in
+    let h : c .before .before .before .word .result ≤ 9300 = omega arith in
     decode-compared (p .before .before .before .args .body .now) (p .part .result .now) _ (p .part .ensures) (c .before .before .before .word .ensures)
-    (p .before .filled .result) _ (c .called .result) (p .before .filled .ensures) (c .before .before .if1 .left)
+    (p .before .filled .result) _ (c .called .result) (p .before .filled .ensures) h
     (c .called .ensures .0) (c .called .ensures .1)
 
 returns : tie.Need-returns
 returns c =
     let p = c .before .before in
-    sym (decode-short (p .before .before .before .args .body .now) (p .part .result .now) _ (p .part .ensures) (c .before .word .ensures) (c .if1 .taken))
+    let h : 9300 < c .before .word .result = omega arith in
+    sym (decode-short (p .before .before .before .args .body .now) (p .part .result .now) _ (p .part .ensures) (c .before .word .ensures) h)
 
 returns-2 : tie.Need-returns-2
 returns-2 c =
     let i = c .before .before .before in
-    sym (after (i .before .before .before .before .before) ∙ rw (← i .before .begins-with .ensures, i .if2 .taken, c .holds .ensures, c .before .part2 .ensures))
+    sym (after (i .before .before .before .before .before)
+    ∙ rw (← i .before .begins-with .ensures, i .if2 .taken, c .holds .ensures, c .before .part2 .ensures))
 
 returns-3 : tie.Need-returns-3
 returns-3 c = sym (after (c .before .before .before .before .before) ∙ rw (← c .before .begins-with .ensures, c .if2 .left))
