@@ -1,17 +1,187 @@
 // Document 01's worked examples as a table: the example's number, what is asked, and what is answered.
-mod print;
-
-use print::text;
+use libc::STDOUT_FILENO;
+use semantics::Checked;
+use semantics::Decoded;
+use semantics::Evaluated;
+use semantics::Refusal;
+use semantics::Verdict;
+use semantics::Written;
 use slices::write_le64;
 use word64::bits;
+ghost use mathlib.Core.Path.{_≡_};
+ghost use Rattle.examples.specs.Const.{withConst};
 
 const LEAST: i64 = -0x7fff_ffff_ffff_ffff - 1;
 
 const GREATEST: i64 = 0x7fff_ffff_ffff_ffff;
 
+// Commands.
+const ADD: u8 = 22;
+
+const DIV: u8 = 25;
+
+const MOD: u8 = 26;
+
+// How wide the column of what is asked is.
+const ASKED: usize = 68;
+
+// ---- what a call answers, in words
+
+fn text(bytes: &[u8]) {
+    io::write_all(STDOUT_FILENO, bytes);
+}
+
+fn number(n: u64) {
+    io::print_decimal(STDOUT_FILENO, n);
+}
+
+// Words, and a number after them.
+fn told(words: &[u8], n: u64) {
+    text(words);
+    number(n);
+}
+
+// 64 bits as a signed number
+fn signed(bits: u64) {
+    if bits < 0x8000_0000_0000_0000 {
+        number(bits);
+    } else {
+        text(b"-");
+        number(!bits + 1);
+    }
+}
+
+// 27 to 31 name both operands, 32 its one.
+fn operands(refusal: u32, first: u64, second: u64) {
+    if refusal < 27 {
+        return;
+    }
+    if refusal < 33 {
+        text(b": ");
+        signed(first);
+    }
+    if refusal < 32 {
+        text(b", ");
+        signed(second);
+    }
+}
+
+fn refused(r: Refusal) {
+    let n = refusals::number_of(r);
+    told(b"refusal ", n.number as u64);
+    operands(n.number, n.first, n.second);
+    text(b"\n");
+}
+
+fn checked(answer: Checked) {
+    match answer {
+        Checked::Passed { tokens, oracles } => {
+            told(b"0, with ", tokens as u64);
+            told(b" tokens and ", oracles as u64);
+            text(b" oracle terminals\n");
+        }
+        Checked::Refused(r) => refused(r),
+    }
+}
+
+fn evaluated(answer: Evaluated) {
+    let verdict = answer.verdict;
+    match verdict {
+        Verdict::Is(holds) => {
+            if holds {
+                text(b"0, true\n");
+            } else {
+                text(b"0, false\n");
+            }
+        }
+        Verdict::Refused(r) => refused(r),
+    }
+}
+
+// The source's name of a kind of token, for those that are shown; else its number.
+fn kind_name(kind: u8) {
+    match kind {
+        1 => text(b"Num"),
+        2 => text(b"Bytes8"),
+        4 => text(b"CurrInp"),
+        7 => text(b"ScriptNumToLe64"),
+        8 => text(b"Le64ToScriptNum"),
+        9 => text(b"Mul64"),
+        14 => text(b"Equal"),
+        15 => text(b"Verify"),
+        23 => text(b"OutValue"),
+        _ => number(kind as u64),
+    }
+}
+
+// A token, after a comma where it is not the first.
+fn token(i: usize, kind: u8, carried: u64) {
+    if i != 0 {
+        text(b",");
+    }
+    text(b" ");
+    kind_name(kind);
+    if kind == 1 || kind == 2 {
+        told(b" ", carried);
+    }
+}
+
+fn tokens(kinds: &[u8], numbers: &[u64], records: usize) {
+    let mut i = 0;
+    while i < records {
+        if i < kinds.len() {
+            if i < numbers.len() {
+                token(i, kinds[i], numbers[i]);
+            }
+        }
+        i += 1;
+    }
+}
+
+fn written(answer: Written, kinds: &[u8], numbers: &[u64]) {
+    match answer {
+        Written::Records { records, key_bytes } => {
+            text(b"0,");
+            tokens(kinds, numbers, records);
+            text(b"\n");
+        }
+        Written::Refused(r) => refused(r),
+    }
+}
+
+// The first command of a condition is on its left side.
+fn decoded(answer: Decoded, first: u8) {
+    match answer {
+        Decoded::Code { bytes, start } => {
+            told(b"0, position ", start as u64);
+            told(b", code of ", bytes as u64);
+            told(b" bytes that begins with ", first as u64);
+            text(b"\n");
+        }
+        Decoded::Refused(r) => refused(r),
+    }
+}
+
+// ---- the calls; `asked` is what stands before the answer
+
+// What is asked, and blanks up to where the answers stand.
+fn column(asked: &[u8]) {
+    let blank = [b' '; ASKED];
+    text(asked);
+    if asked.len() <= ASKED {
+        text(&blank[..ASKED - asked.len()]);
+    }
+}
+
+fn check(asked: &[u8], code: &[u8]) {
+    column(asked);
+    checked(condition::check(code));
+}
+
 // Two inputs, of explicit amounts 2^63 and 7, without issuances, and no outputs; the coins come in at `input`.
-fn evaluate(code: &[u8], input: u64) {
-    print::evaluated(evaluation::evaluate(
+fn evaluate(asked: &[u8], code: &[u8], input: u64) {
+    column(asked);
+    evaluated(evaluation::evaluate(
         code,
         &[0x8000_0000_0000_0000, 7],
         &[1, 1],
@@ -28,122 +198,106 @@ fn evaluate(code: &[u8], input: u64) {
     ));
 }
 
-// A command with an operand of 8 bytes, where nine bytes stand at the place.
-fn operand(code: &mut [u8], at: usize, command: u8, number: u64) {
+// The token form, of conditions without keys.
+fn write(asked: &[u8], code: &[u8]) {
+    column(asked);
+    let mut kinds = [0u8; 32];
+    let mut numbers = [0u64; 32];
+    let mut places = [0u32; 32];
+    let answer = writer::write(code, &mut kinds, &mut numbers, &mut places, &mut []);
+    written(answer, &kinds, &numbers);
+}
+
+// Tokens that carry no key.
+fn decode(asked: &[u8], kinds: &[u8], numbers: &[u64]) {
+    column(asked);
+    let mut code = io::large_buffer();
+    let answer = decoder::decode(kinds, numbers, &[0; 7], &[], &mut code);
+    decoded(answer, code[0]);
+}
+
+// ---- codes
+
+// `Const` of a number, where nine bytes stand at the place.
+fn constant(code: &mut [u8], at: usize, number: i64)
+    ensures { λ _. ⌜ now (code .exit) ≡ withConst (now (code .entry)) at number ⌝ }
+{
     if at < code.len() {
         if 9 <= code.len() - at {
-            write_le64(code, at + 1, number);
-            code[at] = command;
+            write_le64(code, at + 1, bits(number));
+            code[at] = 16;
         }
     }
 }
 
-fn constant(code: &mut [u8], at: usize, number: i64) {
-    operand(code, at, 16, bits(number));
-}
-
 // x, y, the command of a binary operation, z, `Eq`
-fn binary(x: i64, y: i64, command: u8, z: i64) {
+fn binary(asked: &[u8], x: i64, y: i64, command: u8, z: i64) {
     let mut code = [0u8; 29];
     constant(&mut code, 0, x);
     constant(&mut code, 9, y);
     code[18] = command;
     constant(&mut code, 19, z);
     code[28] = 48;
-    evaluate(&code, 0);
-}
-
-fn quotient(x: i64, y: i64, z: i64) {
-    binary(x, y, 25, z);
-}
-
-fn remainder(x: i64, y: i64, z: i64) {
-    binary(x, y, 26, z);
+    evaluate(asked, &code, 0);
 }
 
 // x, `Negate`, y, `Eq`
-fn negated(x: i64, y: i64) {
+fn negated(asked: &[u8], x: i64, y: i64) {
     let mut code = [0u8; 20];
     constant(&mut code, 0, x);
     code[9] = 31;
     constant(&mut code, 10, y);
     code[19] = 48;
-    evaluate(&code, 0);
+    evaluate(asked, &code, 0);
 }
 
-// The token form, of conditions without keys.
-fn write(code: &[u8]) {
-    let mut kinds = [0u8; 32];
-    let mut numbers = [0u64; 32];
-    let mut places = [0u32; 32];
-    let answer = writer::write(code, &mut kinds, &mut numbers, &mut places, &mut []);
-    print::written(answer, &kinds, &numbers);
-}
-
-// Tokens that carry no key.
-fn decode(kinds: &[u8], numbers: &[u64]) {
-    let mut code = io::large_buffer();
-    let answer = decoder::decode(kinds, numbers, &[0; 7], &[], &mut code);
-    print::decoded(answer, code[0]);
-}
+// ---- the examples
 
 fn five_is_five() {
     let code = b"\x10\x05\x00\x00\x00\x00\x00\x00\x00\x10\x05\x00\x00\x00\x00\x00\x00\x00\x30";
-    text(b" 1  Check: 5 Eq 5                                                   ");
-    print::checked(condition::check(code));
-    text(b"    Evaluate: 5 Eq 5                                                ");
-    evaluate(code, 0);
-    text(b"    Write: 5 Eq 5                                                   ");
-    write(code);
+    check(b" 1  Check: 5 Eq 5", code);
+    evaluate(b"    Evaluate: 5 Eq 5", code, 0);
+    write(b"    Write: 5 Eq 5", code);
 }
 
 fn division() {
-    text(b" 2  Evaluate: -7 Div 2 Eq -4                                        ");
-    quotient(-7, 2, -4);
-    text(b"    Evaluate: -7 Mod 2 Eq 1                                         ");
-    remainder(-7, 2, 1);
-    text(b" 3  Evaluate: 7 Div -2 Eq -3                                        ");
-    quotient(7, -2, -3);
-    text(b"    Evaluate: 7 Mod -2 Eq 1                                         ");
-    remainder(7, -2, 1);
-    text(b" 4  Evaluate: -7 Div -2 Eq 4                                        ");
-    quotient(-7, -2, 4);
-    text(b"    Evaluate: -7 Mod -2 Eq 1                                        ");
-    remainder(-7, -2, 1);
-    text(b" 5  Evaluate: -2^63 Div -1 Eq 0                                     ");
-    quotient(LEAST, -1, 0);
-    text(b"    Evaluate: -2^63 Mod -1 Eq 0                                     ");
-    remainder(LEAST, -1, 0);
-    text(b"    Evaluate: -2^63 Div 0 Eq 0                                      ");
-    quotient(LEAST, 0, 0);
-    text(b"    Evaluate: -2^63 Mod 0 Eq 0                                      ");
-    remainder(LEAST, 0, 0);
+    binary(b" 2  Evaluate: -7 Div 2 Eq -4", -7, 2, DIV, -4);
+    binary(b"    Evaluate: -7 Mod 2 Eq 1", -7, 2, MOD, 1);
+    binary(b" 3  Evaluate: 7 Div -2 Eq -3", 7, -2, DIV, -3);
+    binary(b"    Evaluate: 7 Mod -2 Eq 1", 7, -2, MOD, 1);
+    binary(b" 4  Evaluate: -7 Div -2 Eq 4", -7, -2, DIV, 4);
+    binary(b"    Evaluate: -7 Mod -2 Eq 1", -7, -2, MOD, 1);
+    binary(b" 5  Evaluate: -2^63 Div -1 Eq 0", LEAST, -1, DIV, 0);
+    binary(b"    Evaluate: -2^63 Mod -1 Eq 0", LEAST, -1, MOD, 0);
+    binary(b"    Evaluate: -2^63 Div 0 Eq 0", LEAST, 0, DIV, 0);
+    binary(b"    Evaluate: -2^63 Mod 0 Eq 0", LEAST, 0, MOD, 0);
 }
 
 fn limits() {
-    text(b" 6  Evaluate: 2^63 - 1 Add 1 Eq 0                                   ");
-    binary(GREATEST, 1, 22, 0);
-    text(b" 7  Evaluate: Negate -2^63 Eq 0                                     ");
-    negated(LEAST, 0);
-    text(b"    Evaluate: Negate -2^63 + 1 Eq 2^63 - 1                          ");
-    negated(LEAST + 1, GREATEST);
-    text(b" 8  Evaluate: CurrInputIdx Eq -2^63                                 ");
-    let mut code = [0u8; 11];
-    code[0] = 17;
-    constant(&mut code, 1, LEAST);
-    code[10] = 48;
-    evaluate(&code, 0);
+    binary(b" 6  Evaluate: 2^63 - 1 Add 1 Eq 0", GREATEST, 1, ADD, 0);
+    negated(b" 7  Evaluate: Negate -2^63 Eq 0", LEAST, 0);
+    negated(
+        b"    Evaluate: Negate -2^63 + 1 Eq 2^63 - 1",
+        LEAST + 1,
+        GREATEST,
+    );
+    let code = b"\x11\x10\x00\x00\x00\x00\x00\x00\x00\x80\x30";
+    evaluate(b" 8  Evaluate: CurrInputIdx Eq -2^63", code, 0);
 }
 
 fn tails() {
-    text(b" 9  Decode: Swap, Bytes8, Bytes8, Equal                             ");
-    decode(&[35, 2, 2, 14], &[0, 5, 5, 0]);
-    text(b"10  Decode: no tokens                                               ");
-    decode(&[], &[]);
-    text(b"    Decode: Equal                                                   ");
-    decode(&[14], &[0]);
-    text(b"11  Decode: CurrInp, InpValue, Num 1, Equal, Verify, Bytes8, Equal  ");
-    decode(&[4, 22, 1, 14, 15, 2, 14], &[0, 0, 1, 0, 0, 5, 0]);
+    decode(
+        b" 9  Decode: Swap, Bytes8, Bytes8, Equal",
+        &[35, 2, 2, 14],
+        &[0, 5, 5, 0],
+    );
+    decode(b"10  Decode: no tokens", &[], &[]);
+    decode(b"    Decode: Equal", &[14], &[0]);
+    decode(
+        b"11  Decode: CurrInp, InpValue, Num 1, Equal, Verify, Bytes8, Equal",
+        &[4, 22, 1, 14, 15, 2, 14],
+        &[0, 0, 1, 0, 0, 5, 0],
+    );
 }
 
 // Left `Const` + `PriceOracle1`, right `Const`; then left `PriceOracle1W`, right `PriceOracle1`.
@@ -154,42 +308,32 @@ fn oracle_rule() {
     code[50] = 22;
     code[51] = 16;
     code[60] = 48;
-    text(b"12  Check: Const + PriceOracle1 Eq Const                            ");
-    print::checked(condition::check(&code[..61]));
+    check(b"12  Check: Const + PriceOracle1 Eq Const", &code[..61]);
     code = [0; 83];
     code[0] = 33;
     code[41] = 32;
     code[82] = 48;
-    text(b"    Check: PriceOracle1W Eq PriceOracle1                            ");
-    print::checked(condition::check(&code));
+    check(b"    Check: PriceOracle1W Eq PriceOracle1", &code);
 }
 
-// The amount of the input before the current one is 2^63, taken as a signed number.
-fn index_less_one() {
-    let mut code = [0u8; 22];
-    code[0] = 2;
-    operand(&mut code, 1, 1, 1);
-    code[10] = 4;
-    code[11] = 18;
-    constant(&mut code, 12, LEAST);
-    code[21] = 48;
-    text(b"13  Evaluate: Input(CurrIdx - 1) Eq -2^63, at 0                     ");
-    evaluate(&code, 0);
-    text(b"    Evaluate: Input(CurrIdx - 1) Eq -2^63, at 1                     ");
-    evaluate(&code, 1);
-}
-
-// The left operand of an index product is made a 64-bit number before the right one is pushed.
-fn index_product() {
-    let mut code = [0u8; 22];
-    code[0] = 2;
-    operand(&mut code, 1, 1, 3);
-    code[10] = 5;
-    code[11] = 19;
-    constant(&mut code, 12, 5);
-    code[21] = 48;
-    text(b"    Write: Output(CurrIdx * 3) Eq 5                                 ");
-    write(&code);
+// The amount of the input before the current one is 2^63, taken as a signed number. Then the left operand of an index product is made a 64-bit number
+// before the right one is pushed.
+fn indexes() {
+    let less_one =
+        b"\x02\x01\x01\x00\x00\x00\x00\x00\x00\x00\x04\x12\x10\x00\x00\x00\x00\x00\x00\x00\x80\x30";
+    evaluate(
+        b"13  Evaluate: Input(CurrIdx - 1) Eq -2^63, at 0",
+        less_one,
+        0,
+    );
+    evaluate(
+        b"    Evaluate: Input(CurrIdx - 1) Eq -2^63, at 1",
+        less_one,
+        1,
+    );
+    let times_three =
+        b"\x02\x01\x03\x00\x00\x00\x00\x00\x00\x00\x05\x13\x10\x05\x00\x00\x00\x00\x00\x00\x00\x30";
+    write(b"    Write: Output(CurrIdx * 3) Eq 5", times_three);
 }
 
 fn main() {
@@ -199,6 +343,5 @@ fn main() {
     limits();
     tails();
     oracle_rule();
-    index_less_one();
-    index_product();
+    indexes();
 }

@@ -1,8 +1,8 @@
 -- The tokens left fall.
 use borrow.Author.Needs.{needs}
 use Prim.Native.Nat.{_-_}
-use Rattle.examples.proofs.print.tokens.Statement.{statement}
-use Rattle.examples.proofs.print.tokens.Tie as tie
+use Rattle.examples.proofs.tokens.Statement.{statement}
+use Rattle.examples.proofs.tokens.Tie as tie
 
 abbrev Inv-loop : tie.InvT-loop
 Inv-loop kinds numbers records i₀ i = Unit {0}
