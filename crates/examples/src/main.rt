@@ -101,8 +101,6 @@ fn evaluated(answer: Evaluated) {
 // The source's name of a kind of token, for those that are shown; else its number.
 fn kind_name(kind: u8) {
     match kind {
-        1 => text(b"Num"),
-        2 => text(b"Bytes8"),
         4 => text(b"CurrInp"),
         7 => text(b"ScriptNumToLe64"),
         8 => text(b"Le64ToScriptNum"),
@@ -114,15 +112,18 @@ fn kind_name(kind: u8) {
     }
 }
 
-// A token, after a comma where it is not the first.
+// A token, after a comma where it is not the first; a Num and a Bytes8 carry a number.
 fn token(i: usize, kind: u8, carried: u64) {
     if i != 0 {
         text(b",");
     }
-    text(b" ");
-    kind_name(kind);
-    if kind == 1 || kind == 2 {
-        told(b" ", carried);
+    match kind {
+        1 => told(b" Num ", carried),
+        2 => told(b" Bytes8 ", carried),
+        _ => {
+            text(b" ");
+            kind_name(kind);
+        }
     }
 }
 
