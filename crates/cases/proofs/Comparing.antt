@@ -7,12 +7,12 @@ use native.Mathlib.Decide.{decLe}
 use native.Mathlib.Nat.{sub-zero, suc-sub-suc, zero-sub}
 use native.Mathlib.Numerals.{add-one}
 use native.Mathlib.Omega.{arith}
-use borrow.Author.Tests.{eq-eqb, eqb-true, ne-eqb}
+use borrow.Author.Tests.{eq-eqb, eqb-true, le-leb, lt-leb, ne-eqb}
 use lib.Dec.{eqb}
 use lib.ListN.{List·getD-eq-default, length, getD, take, drop, replicate, drop-of-length-le, length-replicate}
 use lib.Seq.{drop-cons, drop-drop, take-append-seam}
 use Rattle.cases.specs.Cases.{numberAt}
-use Rattle.cases.specs.Known.{begins, filled, fresh, held}
+use Rattle.cases.specs.Known.{begins, fill, filled, fresh, held, known}
 use Rattle.cases.proofs.Reading.{number-drop}
 
 -- within a list no default is taken
@@ -110,6 +110,16 @@ held-is fill (k ∷ ks) (x ∷ xs) e =
 
 pub held-front : (fill : ℕ) (ks xs : List ℕ) → held fill ks xs ≡ true → take (length ks) xs ≡ ks
 held-front fill ks xs e = ap (take (length ks)) (held-is fill ks xs e) ∙ take-append-seam ks _
+
+-- a call that was lent the front of a fresh buffer, if it was so long
+module _ (size room : ℕ) (part ns bytes lent : List ℕ) where
+  pub known-short : size < room → known size room part ns bytes lent ≡ false
+  unfolding known
+  known-short h = rw (lt-leb room size h)
+
+  pub known-lent : room ≤ size → known size room part ns bytes lent ≡ (begins part ns && held fill bytes (lent ++ drop room (fresh size fill)))
+  unfolding known
+  known-lent h = rw (le-leb room size h, drop-fresh room size fill)
 
 module _ (part ns : List ℕ) (i : ℕ) where
   pub begins-same : i < length ns → getD ns i 0 ≡ numberAt 8 part (8 * i)

@@ -9,7 +9,7 @@ use native.Mathlib.Numerals.{add-one}
 use native.Mathlib.Omega.{arith}
 use borrow.Author.Tests.{le-leb, lt-leb}
 use lib.Dec.{leb}
-use lib.ListN.{List·getD-eq-default, length, getD, take, drop, set, length-drop}
+use lib.ListN.{List·getD-eq-default, length, getD, take, drop, set, length-drop, length-set}
 use lib.Seq.{drop-cons, drop-drop, take-suc-set}
 use Rattle.slices.specs.Bytes.{Bytes, bytesValue}
 use Rattle.slices.proofs.Bytes.{all-drop, all-take}
@@ -93,18 +93,36 @@ numbers-more k (suc n) part =
     let m : k + k * n ≡ k * suc n = omega (arith, mul-suc k n) in
     rw (e, numbers-more k n (drop k part), drop-drop (k * n) k part, m)
 
--- one more put into the array that has the first n at its front
-pub numbers-put : (k : ℕ) (part out : List ℕ) (n v : ℕ) → take n out ≡ numbersOf k n part → n < length out → v ≡ bytesValue (take k (drop (k * n) part))
-    → take (n + 1) (set out n v) ≡ numbersOf k (n + 1) part
-numbers-put k part out n v e h q =
-    ap (λ (m : ℕ). take m (set out n v)) (add-one n) ∙ take-suc-set out n v h ∙ rw (e, q) (sym (numbers-more k n part))
-
--- as many as there is room for
-pub take-numbers : (k m n : ℕ) (part : List ℕ) → take m (numbersOf k n part) ≡ numbersOf k (min n m) part
+take-numbers : (k m n : ℕ) (part : List ℕ) → take m (numbersOf k n part) ≡ numbersOf k (min n m) part
 unfolding numbersOf
 take-numbers k zero n part = rw min-zero
 take-numbers k (suc m) zero part = rw zero-min
 take-numbers k (suc m) (suc n) part = rw (suc-min-suc, take-numbers k m n (drop k part))
+
+-- a loop that puts the numbers of a part into an array, k bytes each, n of them
+module _ (k n : ℕ) (part out₀ : List ℕ) where
+  -- the first i stand at its front
+  abbrev pub Putting : List ℕ → ℕ → Type 0
+  Putting out i = (i ≤ n) × (length out ≡ length out₀) × (take i out ≡ numbersOf k i part)
+
+  pub put-none : Putting out₀ 0
+  unfolding numbersOf
+  put-none = (omega arith, refl, refl)
+
+  pub put-more : (out : List ℕ) (i v : ℕ) → i < n → n ≤ length out₀ → k * i + k ≤ length part → v ≡ numberAt k part (k * i) → Putting out i
+      → Putting (set out i v) (i + 1)
+  put-more out i v h r l e p =
+      let front : take (i + 1) (set out i v) ≡ numbersOf k (i + 1) part =
+      ap (λ (m : ℕ). take m (set out i v)) (add-one i) ∙ take-suc-set out i v (omega arith)
+      ∙ rw (p .2, e, number-there k part (k * i) l) (sym (numbers-more k i part)) in
+      (omega arith, length-set out i v ∙ p .1, front)
+
+  -- all that there is room for
+  pub put-all : (out : List ℕ) (i : ℕ) → n ≡ min (length part / k) (length out₀) → n ≤ i → Putting out i
+      → take n out ≡ take (length out₀) (numbersOf k (length part / k) part)
+  put-all out i e h p =
+      let same : i ≡ n = omega arith in
+      rw (take-numbers k (length out₀) (length part / k) part, ← e) (rw same at (p .2))
 
 pub getD-numbers : (k n i d : ℕ) (part : List ℕ) → i < n → getD (numbersOf k n part) i d ≡ bytesValue (take k (drop (k * i) part))
 unfolding numbersOf

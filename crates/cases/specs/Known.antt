@@ -1,8 +1,8 @@
 -- What it is that a call leaves what a case knows: its numbers, and the contents of its buffers, which are filled before the call.
-use Prim.Native.Nat.{ℕ}
+use Prim.Native.Nat.{ℕ, _-_}
 use mathlib.Core.Bool.{Bool, true, false, _&&_}
-use mathlib.Core.List.{List, [], _∷_}
-use lib.Dec.{eqb}
+use mathlib.Core.List.{List, [], _∷_, _++_}
+use lib.Dec.{eqb, leb}
 use lib.ListN.{drop, replicate}
 use Rattle.cases.specs.Cases.{numberAt}
 
@@ -29,3 +29,8 @@ unfoldable pub held : ℕ → List ℕ → List ℕ → Bool
 held f [] xs = filled f xs
 held f (k ∷ ks) [] = false
 held f (k ∷ ks) (x ∷ xs) = eqb x k && held f ks xs
+
+-- of a buffer of `size` bytes a call was lent the first `room`, and left them as `lent`: there were so many, its answer's numbers are those that a part begins
+-- with, and the buffer holds the known bytes
+unfoldable pub known : ℕ → ℕ → List ℕ → List ℕ → List ℕ → List ℕ → Bool
+known size room part numbers bytes lent = leb room size && (begins part numbers && held fill bytes (lent ++ fresh (size - room) fill))

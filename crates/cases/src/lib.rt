@@ -1,9 +1,10 @@
 // A case as it stands in the file (tests/vectors/generate.py says how), and whether what a call left is what the case knows.
+ghost use mathlib.Core.Bool.{_&&_};
 ghost use mathlib.Core.Path.{_≡_};
 ghost use Prim.Native.Nat.{min, _<_};
 ghost use lib.ListN.{length, take, drop};
 ghost use Rattle.cases.specs.Cases.{bytesBetween, endOf, halvesOf, numberAt, partOf, startOf, wordOf, wordsOf};
-ghost use Rattle.cases.specs.Known.{begins, filled, held};
+ghost use Rattle.cases.specs.Known.{begins, fill, filled, held};
 
 // What a buffer of bytes is filled with before a call.
 pub const FILL: u8 = 0xa5;
@@ -182,4 +183,11 @@ pub fn holds_words(buffer: &[u64], part: &[u8], fill: u64) -> bool
         k += 1;
     }
     true
+}
+
+// Whether an answer's numbers are those that a part begins with, and a buffer holds the bytes, and after them what it was filled with.
+pub fn knows(part: &[u8], numbers: &[u64], buffer: &[u8], bytes: &[u8]) -> bool
+    ensures { λ r. ⌜ r ≡ (begins (now (part .entry)) (now (numbers .entry)) && held fill (now (bytes .entry)) (now (buffer .entry))) ⌝ }
+{
+    begins_with(part, numbers) && holds(buffer, bytes, FILL)
 }

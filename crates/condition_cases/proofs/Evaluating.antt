@@ -3,7 +3,6 @@ use Prim.Native.Nat.{ℕ, _≤_, _<_}
 use mathlib.Core.Bool.{_&&_, false}
 use mathlib.Core.Path.{_≡_}
 use mathlib.Core.List.{List, [], _∷_, _++_}
-use borrow.Author.Tests.{le-leb, lt-leb}
 use lib.ListN.{take, drop}
 use Rattle.semantics.specs.Evaluate.{evaluated}
 use Rattle.amounts.specs.Lists.{envOf}
@@ -11,7 +10,7 @@ use Rattle.answers.specs.declared.EvaluateAnswer.{EvaluateAnswer}
 use Rattle.answers.specs.Answers.{evaluateAnswer}
 use Rattle.cases.specs.Cases.{halvesOf, partOf, wordOf}
 use Rattle.cases.specs.Known.{begins, fill, fresh, held}
-use Rattle.cases.proofs.Comparing.{drop-fresh, take-fresh}
+use Rattle.cases.proofs.Comparing.{known-lent, known-short, take-fresh}
 use Rattle.condition_cases.specs.Agreement.{amountsOf, evaluateAgrees, evaluateLent}
 
 module _ (body code a b c d e f g h w n buffer : List ℕ) (current : ℕ) where
@@ -25,14 +24,14 @@ module _ (body code a b c d e f g h w n buffer : List ℕ) (current : ℕ) where
 module _ (body known : List ℕ) (room : ℕ) (k : known ≡ partOf body 11) (r : room ≡ wordOf known 1) where
   pub evaluate-short : 12288 < room → evaluateAgrees body ≡ false
   unfolding evaluateAgrees
-  evaluate-short h = rw (← k, ← r, lt-leb room 12288 h)
+  evaluate-short h = rw (← k, ← r) (known-short 12288 room known _ (partOf body 12) _ h)
 
-  pub evaluate-compared : (buffer after : List ℕ) (a : EvaluateAnswer) → buffer ≡ fresh 12288 fill → room ≤ 12288
+  pub evaluate-compared : (buffer lent : List ℕ) (a : EvaluateAnswer) → buffer ≡ fresh 12288 fill → room ≤ 12288
       → a ≡ evaluateAnswer (evaluated (partOf body 0) (evaluateLent body (take room buffer)) .answer)
-      → after ≡ evaluated (partOf body 0) (evaluateLent body (take room buffer)) .buffer
+      → lent ≡ evaluated (partOf body 0) (evaluateLent body (take room buffer)) .buffer
       → evaluateAgrees body
       ≡ (begins known (wordOf known 0 ∷ room ∷ a .number ∷ a .verdict ∷ a .first ∷ a .second ∷ a .checks ∷ a .left ∷ [])
-      && held fill (partOf body 12) (after ++ drop room buffer))
+      && held fill (partOf body 12) (lent ++ drop room buffer))
   unfolding evaluateAgrees
-  evaluate-compared buffer after a f h e l =
-      rw (e, l, f, take-fresh room 12288 fill h, drop-fresh room 12288 fill, ← k, ← r, le-leb room 12288 h)
+  evaluate-compared buffer lent a f h e l =
+      rw (e, l, f, take-fresh room 12288 fill h, ← k, ← r) (known-lent 12288 room known _ (partOf body 12) _ h)

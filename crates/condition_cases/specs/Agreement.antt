@@ -1,16 +1,15 @@
 -- A case agrees where the definition's answer on its parts is the known one, number by number, and the buffer then holds the known bytes and after them what
 -- it was filled with. The parts stand in the order of tests/vectors/generate.py, whose words are quoted.
-use Prim.Native.Nat.{ℕ, _-_}
-use mathlib.Core.Bool.{Bool, _&&_}
-use mathlib.Core.List.{List, [], _∷_, _++_}
-use lib.Dec.{leb}
+use Prim.Native.Nat.{ℕ}
+use mathlib.Core.Bool.{Bool}
+use mathlib.Core.List.{List, [], _∷_}
 use lib.ListN.{take}
 use Rattle.semantics.specs.Check.{checked}
 use Rattle.semantics.specs.Evaluate.{Lent, evaluated}
 use Rattle.amounts.specs.Lists.{envOf}
 use Rattle.answers.specs.Answers.{checkAnswer, evaluateAnswer}
 use Rattle.cases.specs.Cases.{halvesOf, partOf, wordOf, wordsOf}
-use Rattle.cases.specs.Known.{begins, fill, fresh, held}
+use Rattle.cases.specs.Known.{begins, fill, fresh, known}
 
 -- Check: "code; number, place"
 unfoldable pub checkAgrees : List ℕ → Bool
@@ -33,13 +32,11 @@ evaluateLent body buffer =
       buffer = buffer;
     }
 
--- of a buffer of 12,288 bytes the call is lent as many as the case says, if there are so many
+-- the buffer has 12,288 bytes
 unfoldable pub evaluateAgrees : List ℕ → Bool
 evaluateAgrees body =
-    let known = partOf body 11 in
-    let room = wordOf known 1 in
+    let numbers = partOf body 11 in
+    let room = wordOf numbers 1 in
     let e = evaluated (partOf body 0) (evaluateLent body (fresh room fill)) in
     let a = evaluateAnswer (e .answer) in
-    leb room 12288
-    && (begins known (wordOf known 0 ∷ room ∷ a .number ∷ a .verdict ∷ a .first ∷ a .second ∷ a .checks ∷ a .left ∷ [])
-    && held fill (partOf body 12) (e .buffer ++ fresh (12288 - room) fill))
+    known 12288 room numbers (wordOf numbers 0 ∷ room ∷ a .number ∷ a .verdict ∷ a .first ∷ a .second ∷ a .checks ∷ a .left ∷ []) (partOf body 12) (e .buffer)

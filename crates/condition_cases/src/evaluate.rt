@@ -1,9 +1,8 @@
 // Cases of Evaluate.
 use answers::EvaluateAnswer;
 use cases::FILL;
-use cases::begins_with;
 use cases::halves;
-use cases::holds;
+use cases::knows;
 use cases::part;
 use cases::word;
 use cases::words;
@@ -78,5 +77,5 @@ pub fn agrees(body: &[u8]) -> bool
         a.checks,
         a.left,
     ];
-    begins_with(known, &numbers) && holds(&checks, part(body, 12), FILL)
+    knows(known, &numbers, &checks, part(body, 12))
 }

@@ -1,9 +1,8 @@
 // Cases of Decode.
 use answers::DecodeAnswer;
 use cases::FILL;
-use cases::begins_with;
 use cases::halves;
-use cases::holds;
+use cases::knows;
 use cases::part;
 use cases::word;
 use cases::words;
@@ -46,5 +45,5 @@ pub fn agrees(body: &[u8]) -> bool
     }
     let a = called(body, &mut code[..room]);
     let numbers = [room as u64, a.number as u64, a.place, a.code_bytes, a.start];
-    begins_with(known, &numbers) && holds(&code, part(body, 5), FILL)
+    knows(known, &numbers, &code, part(body, 5))
 }

@@ -1,45 +1,41 @@
--- The invariant: the first i numbers are put; the measure is how many are left.
+-- The invariant: the first i numbers are put (`Putting`); the measure is how many are left.
 use borrow.Author.Needs.{needs}
-use Prim.Native.Nat.{_+_, _-_, _*_, _/_, _≤_, _<_, min}
-use mathlib.Core.Path.{_≡_, refl, sym, _∙_}
+use Prim.Native.Nat.{_+_, _-_, _*_, _≤_}
+use mathlib.Core.Path.{sym}
 use native.Mathlib.Omega.{arith}
-use lib.ListN.{length, take, length-set}
+use lib.ListN.{length}
 use lib.Seq.{length-take-le}
-use Rattle.cases.specs.Cases.{numbersOf}
-use Rattle.cases.proofs.Reading.{number-there, numbers-put, take-numbers}
+use Rattle.cases.proofs.Reading.{Putting, put-all, put-more, put-none}
 use Rattle.cases.proofs.words.Statement.{statement}
 use Rattle.cases.proofs.words.Tie as tie
 
 abbrev Inv-loop : tie.InvT-loop
-Inv-loop body k out₀ numbers n i₀ out i = (i ≤ n) × (length out ≡ length out₀) × (take i out ≡ numbersOf 8 i numbers)
+Inv-loop body k out₀ numbers n i₀ out i = Putting 8 n numbers out₀ out i
 
 abbrev μ-loop : tie.MeasureT-loop
 μ-loop body k out₀ numbers n i₀ out i = n - i
 
 loop-holds : tie.Need-loop-holds Inv-loop μ-loop
-unfolding numbersOf
-loop-holds c = (omega arith, refl, refl)
+loop-holds c =
+    let p = c .before in
+    put-none 8 (c .shorter .result) (p .part .result .now) (p .before .before .before .args .out .now)
 
 loop-again : tie.Need-loop-again Inv-loop μ-loop
 loop-again c =
     let l = c .before .before in
-    let numbers = l .before .before .part .result .now in
+    let p = l .before .before in
+    let numbers = p .part .result .now in
+    let out₀ = p .before .before .before .args .out .now in
     let h : 8 * l .loop .i + 8 ≤ length numbers = omega arith in
-    let r : l .loop .i < length (l .loop .out) = omega arith in (
-      omega arith,
-      length-set (l .loop .out) (l .loop .i) _ ∙ l .loop .inv .1,
-      numbers-put 8 numbers (l .loop .out) (l .loop .i) _ (l .loop .inv .2) r (c .word .ensures ∙ number-there 8 numbers (8 * l .loop .i) h),
-    )
+    put-more 8 (l .before .shorter .result) numbers out₀ (l .loop .out) (l .loop .i) _ (omega arith) (omega arith) h (c .word .ensures) (l .loop .inv)
 
 returns : tie.Need-returns Inv-loop μ-loop
 returns c =
     let l = c .before .before in
     let p = l .before .before in
-    let room = length (p .before .before .before .args .out .now) in
-    let numbers = p .part .result .now in
-    let n : l .loop .i ≡ min (length numbers / 8) room = omega arith in
-    let r : l .before .shorter .result ≡ l .loop .i = omega arith in
-    rw (r, ← p .part .ensures, take-numbers 8 room (length numbers / 8) numbers, ← n) (l .loop .inv .2)
+    let out₀ = p .before .before .before .args .out .now in
+    rw (← p .part .ensures)
+    (put-all 8 (l .before .shorter .result) (p .part .result .now) out₀ (l .loop .out) (l .loop .i) (l .before .shorter .ensures) (omega arith) (l .loop .inv))
 
 pub words-spec : {M : Type 1} → statement M
 words-spec =

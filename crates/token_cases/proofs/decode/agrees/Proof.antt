@@ -1,16 +1,13 @@
 -- The call is made where there is room, and all that it left is compared (`decode-compared`).
 use borrow.Author.Needs.{needs}
 use Prim.Native.Nat.{_≤_, _<_}
-use mathlib.Core.Bool.{_&&_}
-use mathlib.Core.List.{[], _∷_, _++_}
+use mathlib.Core.List.{_++_}
 use mathlib.Core.Path.{_≡_, sym, ap, _∙_}
 use native.Mathlib.Omega.{arith}
 use lib.ListN.{drop, length}
 use lib.Seq.{length-front, length-take-le}
-use Rattle.cases.specs.Cases.{partOf}
-use Rattle.cases.specs.Known.{begins, fill, held}
+use Rattle.cases.specs.Known.{fill}
 use Rattle.cases.proofs.Comparing.{length-fresh}
-use Rattle.token_cases.specs.Decoding.{decodeAgrees}
 use Rattle.token_cases.proofs.Decoding.{decode-compared, decode-short}
 use Rattle.token_cases.proofs.decode.agrees.Statement.{statement}
 use Rattle.token_cases.proofs.decode.agrees.Tie as tie
@@ -24,21 +21,6 @@ same-length c =
     let f = c .before .before .before .before .before in
     length-front (f .filled .result) (c .called .last .1 .0) (c .before .before .before .word .result) (c .called .kept .1 .0) ∙ full f
 
--- once the call is made
-after : (c : tie.After-called)
-    → let body = c .before .before .before .before .before .before .before .args .body .now in
-    let room = c .before .before .before .word .result in
-    let r = c .called .result in
-    decodeAgrees body
-    ≡ (begins (c .before .before .before .before .part .result .now) (room ∷ r .number ∷ r .place ∷ r .«code_bytes» ∷ r .start ∷ [])
-    && held fill (partOf body 5) (c .called .last .1 .0 ++ drop room (c .before .before .before .before .before .filled .result)))
-after c =
-    let p = c .before .before .before .before in
-    let h : c .before .before .before .word .result ≤ 9300 = omega arith in
-    decode-compared (p .before .before .before .args .body .now) (p .part .result .now) _ (p .part .ensures) (c .before .before .before .word .ensures)
-    (p .before .filled .result) _ (c .called .result) (p .before .filled .ensures) h
-    (c .called .ensures .0) (c .called .ensures .1)
-
 returns : tie.Need-returns
 returns c =
     let p = c .before .before in
@@ -47,12 +29,14 @@ returns c =
 
 returns-2 : tie.Need-returns-2
 returns-2 c =
-    let i = c .before .before .before in
-    sym (after (i .before .before .before .before .before)
-    ∙ rw (← i .before .begins-with .ensures, i .if2 .taken, c .holds .ensures, c .before .part2 .ensures))
-
-returns-3 : tie.Need-returns-3
-returns-3 c = sym (after (c .before .before .before .before .before) ∙ rw (← c .before .begins-with .ensures, c .if2 .left))
+    let d = c .before .before .before .before .before .before in
+    let w = d .before .before .before in
+    let p = w .before in
+    let f = p .before in
+    let h : w .word .result ≤ 9300 = omega arith in
+    let e = decode-compared (f .before .before .args .body .now) (p .part .result .now) (w .word .result) (p .part .ensures) (w .word .ensures)
+    (f .filled .result) _ (d .called .result) (f .filled .ensures) h (d .called .ensures .0) (d .called .ensures .1) in
+    rw (c .knows .ensures, c .before .part2 .ensures) (sym e)
 
 pub agrees-spec : {M : Type 1} → statement M
 agrees-spec =
@@ -67,9 +51,7 @@ agrees-spec =
     (λ c κs. search needs)
     (λ c. search needs)
     (λ c. search needs)
+    (λ c. sym (same-length (c .before .before .before .before)))
     (λ c κs. search needs)
-    (λ c. sym (same-length (c .before .before .before .before .before .before)))
     (λ c κs. search needs)
-    (λ c κs. search needs)
-    returns-2
-    returns-3)
+    returns-2)
