@@ -17,7 +17,10 @@ KINDS = [
     (r"`search`: no proof", "search: no proof"),
     (r"`(rw|simp)`: no ", r"\1: nothing to rewrite"),
     (r"give a proof of that as the last argument, `(rw|simp) ", r"\1: the two ends differ"),
-    (r"the two (types|values) (first )?differ", r"the two \1 differ"),
+    (r"the two (types|values|sides) (first )?differ", r"the two \1 differ"),
+    (r"computed as far as they go, the two (types|sides) are", r"the two \1 differ"),
+    (r"^`(‹out of reach |Rattle·)", "the two sides differ"),
+    (r"list the missing equation", "cc: the equations do not give it"),
     (r"expected type `", "another type is expected"),
 ]
 
@@ -28,7 +31,8 @@ def first_error(log, crate, name):
     place = lambda path: path.split(there)[-1]
     for line in open(log, errors="replace"):
         m = re.match(r"(\S+?):(\d+):\d+: error: `([^`]+)`: (.*)", line)
-        if m:
+        # a caller of what was refused is not a refusal of its own
+        if m and "was not admitted" not in m[4]:
             kind = next((re.search(p, m[4]).expand(k) for p, k in KINDS if re.search(p, m[4])), m[4][:60].strip())
             return "%s:%s, `%s`: %s" % (place(m[1]), m[2], m[3], kind)
         m = re.match(r"note: (\S+?):\d+:\d+: it is not proved that (.*)", line)
