@@ -1,7 +1,7 @@
 #!/usr/bin/env python3
 """run.py: measures the archive and writes docs/MEMORY.md; and, where RUST_SOURCE names the folder of the published source, the Rust beside it, and writes docs/SPEED.md.
-Needs gcc and an archive in target/staticlib; for the speed also valgrind and rustc. Every figure that it writes is of the run, but for the sizes that the header names
-and the two bounds of the unit."""
+Needs gcc and an archive in target/staticlib; for the speed also valgrind and rustc. Every figure that it writes is of the run, but for the sizes that the header names,
+the bounds of the unit and the limits of a call."""
 import concurrent.futures
 import os
 import re
@@ -17,6 +17,7 @@ CASES = os.path.join(ROOT, "crates", "vectors", "data", "cases")
 UNIT_BYTES, UNIT_MS = 512 << 10, 200
 SLOTS = 256  # of a list of amounts, for the table of memory
 LONGER = 4096  # tokens of a condition that the tables of memory look ahead to, with as many code bytes and oracle terminals in proportion
+LIMITS = 96 << 10, 300 << 10  # of a call, all in, at today's bound of tokens and at the longer one
 # bytes of the calls' own arrays for each token: operands of 8 and 8; marks of 2 and 1; a row of 1; the fields of a record, 1, 8 and 4
 ARRAYS = {"Check": 0, "Evaluate": 16, "Write": 3, "Decode": 1, "Write, records": 16, "Decode, records": 14}
 CALLS = ["Check", "Evaluate", "Write", "Decode"]
@@ -151,14 +152,20 @@ def memory(rows, refused, cases, readers):
                      "(%s bytes a token) and of the readers' frames (%d bytes for each four tokens; the gate fails where a frame grows)."
                      % (LONGER, LONGER, scale * code, tokens, ", ".join("%s %d" % p for p in ARRAYS.items() if p[1]), 4 * frame))
     out += ["| call | stack | lent | all | of %d KiB | stack at %d | lent | all | of %d KiB |" % (UNIT_BYTES >> 10, LONGER, UNIT_BYTES >> 10), "|---" * 9 + "|"]
+    largest = [0, 0]
     for c, name in enumerate(STACKS):
         cells = [name]
-        for stack, parts in ((worst[c], now[name]), (worst[c] + more[name], then[name])):
+        for which, (stack, parts) in enumerate(((worst[c], now[name]), (worst[c] + more[name], then[name]))):
             n = sum(k for _, k in parts)
             total = stack + n + text + rodata
+            largest[which] = max(largest[which], total)
             cells += ["%d" % stack, "%d" % n, "%d" % total, "%.0f%%" % (100 * total / UNIT_BYTES)]
         out.append("| %s |" % " | ".join(cells))
-    out += ["", "What is lent:", ""]
+    out += [""] + paragraph("No call may take more than %d KiB at %d tokens, nor more than %d KiB at %d: the largest takes %d and %d bytes."
+                            % (LIMITS[0] >> 10, tokens, LIMITS[1] >> 10, LONGER, largest[0], largest[1]))
+    if any(a > b for a, b in zip(largest, LIMITS)):
+        sys.exit("a call takes more memory than its limit: %s of %s" % (largest, LIMITS))
+    out += ["What is lent:", ""]
     out += ["- %s: %s; at %d tokens %s." % (c, ", ".join("%s %d" % p for p in now[c]), LONGER, ", ".join("%s %d" % p for p in then[c])) for c in STACKS]
     out += ["", "## Stack by condition", "", "| condition | tokens | " + " | ".join(STACKS) + " |", "|---" * 8 + "|"]
     for s in shapes(rows):
