@@ -1,13 +1,13 @@
 #!/bin/sh
-# prove.sh WORD..: runs rt with these words (check NAME, staticlib NAME, ci), and shows a line for each crate as it is proved: which of how many, and the seconds. Of a
+# prove.sh WORD..: runs rt with these words (check NAME.., staticlib NAME, ci), and shows a line for each crate as it is proved: which of how many, and the seconds. Of a
 # crate that is not proved it shows all that rt said; of one that has not changed since it was last proved, nothing. Of an archive's own crate rt has no such line; its
 # seconds are those since the last one (srand answers the second at which it was called before). Ends with rt's status.
 set -u
 cd "$(dirname "$0")/.."
-# the crates of the repository that the words reach: a crate and those of its line in crates.txt, or all
+# the crates of the repository that the words reach: those named and those of their lines in crates.txt, or all
 if [ $# -gt 1 ]; then
     total=0
-    for crate in "$2" $(sed -n "s/^$2: *//p" crates.txt); do
+    for crate in $(for name in "$@"; do echo "$name" && sed -n "s/^$name: *//p" crates.txt; done | tr ' ' '\n' | sort -u); do
         if [ -d "crates/$crate" ]; then total=$((total + 1)); fi
     done
 else

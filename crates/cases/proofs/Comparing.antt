@@ -10,7 +10,7 @@ use native.Mathlib.Omega.{arith}
 use borrow.Author.Tests.{eq-eqb, eqb-true, le-leb, lt-leb, ne-eqb}
 use lib.Dec.{eqb}
 use lib.ListN.{List·getD-eq-default, length, getD, take, drop, replicate, drop-of-length-le, length-replicate}
-use lib.Seq.{drop-cons, drop-drop, take-append-seam}
+use lib.Seq.{drop-cons, drop-drop, length-front, take-append-seam}
 use Rattle.cases.specs.Cases.{numberAt}
 use Rattle.cases.specs.Known.{begins, fill, filled, fresh, held, known}
 use Rattle.cases.proofs.Reading.{number-drop}
@@ -25,6 +25,13 @@ getD-any (x ∷ xs) (suc i) d e h = getD-any xs i d e (omega arith)
 pub length-fresh : (n x : ℕ) → length (fresh n x) ≡ n
 unfolding fresh
 length-fresh n x = length-replicate n x
+
+pub full : (n x : ℕ) (buffer : List ℕ) → buffer ≡ fresh n x → length buffer ≡ n
+full n x buffer e = ap length e ∙ length-fresh n x
+
+-- the same once a call has left something else at its front
+pub full-after : (n x m : ℕ) (buffer front : List ℕ) → buffer ≡ fresh n x → length front ≡ length (take m buffer) → length (front ++ drop m buffer) ≡ n
+full-after n x m buffer front e h = length-front buffer front m h ∙ full n x buffer e
 
 pub take-fresh : (m n x : ℕ) → m ≤ n → take m (fresh n x) ≡ fresh m x
 unfolding fresh

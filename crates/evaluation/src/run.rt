@@ -44,6 +44,12 @@ enum Next {
     Ended(Verdict),
 }
 
+// After an oracle terminal: a command, or nothing.
+enum Step {
+    On(Spot),
+    Ended(Verdict),
+}
+
 // The amount of a list at an index: it is pushed.
 fn step_lookup(
     list: AmountList,
@@ -76,12 +82,6 @@ fn step_lookup(
         i,
     );
     push_value(vals, v, values, indexes)
-}
-
-// After an oracle terminal: a command, or nothing.
-enum Step {
-    On(Spot),
-    Ended(Verdict),
 }
 
 // What follows a turn, if the next command stands at `at`.

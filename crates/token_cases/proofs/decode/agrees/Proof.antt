@@ -2,24 +2,22 @@
 use borrow.Author.Needs.{needs}
 use Prim.Native.Nat.{_≤_, _<_}
 use mathlib.Core.List.{_++_}
-use mathlib.Core.Path.{_≡_, sym, ap, _∙_}
+use mathlib.Core.Path.{_≡_, sym}
 use native.Mathlib.Omega.{arith}
 use lib.ListN.{drop, length}
-use lib.Seq.{length-front, length-take-le}
+use lib.Seq.{length-take-le}
 use Rattle.cases.specs.Known.{fill}
-use Rattle.cases.proofs.Comparing.{length-fresh}
+use Rattle.cases.proofs.Comparing.{full, full-after}
 use Rattle.token_cases.proofs.Decoding.{decode-compared, decode-short}
 use Rattle.token_cases.proofs.decode.agrees.Statement.{statement}
 use Rattle.token_cases.proofs.decode.agrees.Tie as tie
 
-full : (c : tie.After-filled) → length (c .filled .result) ≡ 9300
-full c = ap length (c .filled .ensures) ∙ length-fresh 9300 fill
-
+-- what the call leaves is as long as the buffer that it was lent
 same-length : (c : tie.After-called)
     → length (c .called .last .1 .0 ++ drop (c .before .before .before .word .result) (c .before .before .before .before .before .filled .result)) ≡ 9300
 same-length c =
     let f = c .before .before .before .before .before in
-    length-front (f .filled .result) (c .called .last .1 .0) (c .before .before .before .word .result) (c .called .kept .1 .0) ∙ full f
+    full-after 9300 fill (c .before .before .before .word .result) (f .filled .result) (c .called .last .1 .0) (f .filled .ensures) (c .called .kept .1 .0)
 
 returns : tie.Need-returns
 returns c =
@@ -47,7 +45,7 @@ agrees-spec =
     (λ c κs. search needs)
     returns
     (λ c. search needs)
-    (λ c. sym (length-take-le _ _ (omega (arith, full (c .before .before .before .before)))))
+    (λ c. sym (length-take-le _ _ (omega (arith, full _ _ _ (c .before .before .before .before .filled .ensures)))))
     (λ c κs. search needs)
     (λ c. search needs)
     (λ c. search needs)
