@@ -1,16 +1,22 @@
 #!/bin/sh
 # run.sh: the whole gate. rt ci proves every crate, tries the edits that must fail and runs the programs; the archive is then built from what it proved, so that nothing is
-# proved twice. Its last line, 'N passed, M failed', is printed again once the rest has passed too.
+# proved twice. rt's line 'N passed, 0 failed' is held back and is the last line of all, once everything else has passed. Where a step fails the last line says so, whatever
+# the step itself printed (tests/run_check.sh).
 set -eu
 cd "$(dirname "$0")/.."
-log=$(mktemp)
-trap 'rm -f "$log" "$log.status"' EXIT
+work=$(mktemp -d)
+trap 'status=$?; rm -rf "$work"; test $status = 0 || echo "the gate has failed, with status $status"' EXIT
+tests/run_check.sh
 rt fmt --check
-{ tests/prove.sh ci; echo $? >"$log.status"; } | tee "$log"
-test "$(cat "$log.status")" = 0
+{
+    status=0
+    tests/prove.sh ci || status=$?
+    echo $status >"$work/status"
+} | awk -v tally="$work/tally" '/^[0-9]+ passed, [0-9]+ failed$/ { print >tally; print "rt ci: " $0; next } { print; fflush() }'
+test "$(cat "$work/status")" = 0
 make --no-print-directory -s archive
 tests/boundary/run.sh
 tests/vectors/generate.py target/cases >/dev/null
 cmp target/cases crates/vectors/data/cases
 echo "vectors: the cases are what tests/vectors/generate.py writes"
-tail -n 1 "$log"
+grep ' passed, 0 failed$' "$work/tally"

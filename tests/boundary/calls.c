@@ -32,7 +32,7 @@ static const uint8_t less_one[22] = {2, 1, 1, 0, 0, 0, 0, 0, 0, 0, 4, 18, 16, 7,
 static void oracle_code(uint8_t code[51]) {
     memset(code, 0, 51);
     code[0] = 32;
-    for (int i = 0; i < 32; i++) code[1 + i] = (uint8_t)(i + 1);
+    for (int i = 0; i < 32; i++) code[1 + i] = (uint8_t)(i + 4);
     code[33] = 5;
     code[41] = 16;
     code[42] = 9;

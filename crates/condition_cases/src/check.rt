@@ -7,6 +7,6 @@ ghost use Rattle.condition_cases.specs.Agreement.{checkAgrees};
 pub fn agrees(body: &[u8]) -> bool
     ensures { λ r. ⌜ r ≡ checkAgrees (now (body .entry)) ⌝ }
 {
-    let a = covenant::covenant_check(part(body, 0));
-    begins_with(part(body, 1), &[a.number as u64, a.place])
+    let answer = covenant::covenant_check(part(body, 0));
+    begins_with(part(body, 1), &[answer.number as u64, answer.place])
 }

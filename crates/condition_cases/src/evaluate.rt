@@ -26,33 +26,34 @@ fn filled() -> [u8; ROOM]
     [FILL; ROOM]
 }
 
-fn called(body: &[u8], checks: &mut [u8]) -> EvaluateAnswer
+// The call, with the parts of the case lent.
+fn call(body: &[u8], checks: &mut [u8]) -> EvaluateAnswer
     ensures { λ r. ⌜ r ≡ evaluateAnswer (evaluated (partOf (now (body .entry)) 0) (evaluateLent (now (body .entry)) (now (checks .entry))) .answer) ⌝ }
     ensures { λ _. ⌜ now (checks .exit) ≡ evaluated (partOf (now (body .entry)) 0) (evaluateLent (now (body .entry)) (now (checks .entry))) .buffer ⌝ }
 {
-    let mut spent = [0u64; SLOTS];
-    let mut outputs = [0u64; SLOTS];
-    let mut issued = [0u64; SLOTS];
-    let mut reissued = [0u64; SLOTS];
-    let mut ends = [0u32; ELEMENTS];
-    let s = words(body, 1, &mut spent);
-    let o = words(body, 3, &mut outputs);
-    let i = words(body, 5, &mut issued);
-    let r = words(body, 7, &mut reissued);
-    let e = halves(body, 10, &mut ends);
+    let mut spent_slots = [0u64; SLOTS];
+    let mut output_slots = [0u64; SLOTS];
+    let mut issued_slots = [0u64; SLOTS];
+    let mut reissued_slots = [0u64; SLOTS];
+    let mut element_ends = [0u32; ELEMENTS];
+    let spent = words(body, 1, &mut spent_slots);
+    let outputs = words(body, 3, &mut output_slots);
+    let issued = words(body, 5, &mut issued_slots);
+    let reissued = words(body, 7, &mut reissued_slots);
+    let ends = halves(body, 10, &mut element_ends);
     covenant::covenant_evaluate(
         part(body, 0),
-        s,
+        spent,
         part(body, 2),
-        o,
+        outputs,
         part(body, 4),
-        i,
+        issued,
         part(body, 6),
-        r,
+        reissued,
         part(body, 8),
         word(part(body, 11), 0),
         part(body, 9),
-        e,
+        ends,
         checks,
     )
 }
@@ -66,16 +67,16 @@ pub fn agrees(body: &[u8]) -> bool
     if ROOM < room {
         return false;
     }
-    let a = called(body, &mut checks[..room]);
+    let answer = call(body, &mut checks[..room]);
     let numbers = [
         word(known, 0),
         room as u64,
-        a.number as u64,
-        a.verdict as u64,
-        a.first,
-        a.second,
-        a.checks,
-        a.left,
+        answer.number as u64,
+        answer.verdict as u64,
+        answer.first,
+        answer.second,
+        answer.checks,
+        answer.left,
     ];
     knows(known, &numbers, &checks, part(body, 12))
 }

@@ -15,13 +15,13 @@ use Rattle.semantics.specs.Evaluate.{over}
 use Rattle.productions.specs.Before.{Whole, before}
 use Rattle.emission.specs.Pieces.{Met, among, amongLater, command, firstCommand, joined, judged, part, pieces, piecesAfter, placedPiece, put, sizeOf}
 use Rattle.emission.specs.declared.Judged.{Judged}
-use Rattle.emission.specs.declared.Piece.{Piece}
+use Rattle.emission.specs.declared.CommandAt.{CommandAt}
 use Rattle.productions.proofs.Tokens.{drop-before}
 use Rattle.emission.proofs.Parts.{joined-append, joined-one, pieces-step}
 use Rattle.emission.proofs.Mets.{command-placed, size-placed}
 
 -- the pieces before a place, with the last one apart
-met-step : (r : Records) (start end : ℕ) (p : Piece) → Met r end p → start < end
+met-step : (r : Records) (start end : ℕ) (p : CommandAt) → Met r end p → start < end
     → pieces (end - start) (before (tokenAt r) end) ≡ pieces (p .first - start) (before (tokenAt r) (p .first)) ++ placedPiece r (p .command) (p .first) ∷ []
 met-step r start end p met h =
     let t : ℕ → Token = tokenAt r in
@@ -51,7 +51,7 @@ later-next [] first later e f = rw (e, f)
 later-next (p ∷ ps) first later e f = rw (e, f)
 
 pub judging-next : (r : Records) (start end bytes first : ℕ) (later : Bool) → Judging r start end bytes first later → end ≤ length (r .kinds)
-    → Whole (r .kinds) (r .places) (r .keys) → start < end → (p : Piece) → Met r end p → (next : Bool) → next ≡ (eqb first 32 || later)
+    → Whole (r .kinds) (r .places) (r .keys) → start < end → (p : CommandAt) → Met r end p → (next : Bool) → next ≡ (eqb first 32 || later)
     → Judging r start (p .first) (bytes + sizeOf (p .command)) (p .command) next
 unfolding joined
 judging-next r start end bytes first later j few whole h p met next e =
@@ -107,7 +107,7 @@ emitting-start r start old bytes e =
     }
 
 module _ (r : Records) (start : ℕ) (old : List ℕ) (end at : ℕ) (buffer : List ℕ) (m : Emitting r start old end at buffer) where
-  module _ (few : end ≤ length (r .kinds)) (whole : Whole (r .kinds) (r .places) (r .keys)) (h : start < end) (p : Piece) (met : Met r end p) where
+  module _ (few : end ≤ length (r .kinds)) (whole : Whole (r .kinds) (r .places) (r .keys)) (h : start < end) (p : CommandAt) (met : Met r end p) where
     shorter : at ≡ length (joined (pieces (p .first - start) (before (tokenAt r) (p .first)))) + length (placedPiece r (p .command) (p .first))
     shorter =
         m .left ∙ ap (λ (l : List (List ℕ)). length (joined l)) (met-step r start end p met h)

@@ -25,7 +25,7 @@ use Rattle.semantics.specs.Records.{Records, keyOf, tokenAt, tokenOf}
 use Rattle.productions.specs.Before.{Whole, before}
 use Rattle.productions.specs.Ending.{Production, Row, blank, ending, kindAt, ownCode, production, productionOf, productions, rowAt, rowFound, rows}
 use Rattle.emission.specs.Pieces.{Met, Part, Placed, command, part, partOf, placedPiece, sizeOf}
-use Rattle.emission.specs.declared.Piece.{Piece}
+use Rattle.emission.specs.declared.CommandAt.{CommandAt}
 use Rattle.productions.proofs.Tokens.{getD-before, length-before, recorded}
 use Rattle.productions.proofs.Endings.{production-sound}
 use Rattle.productions.proofs.Places.{At, neither, row-missing}
@@ -231,7 +231,7 @@ command-placed r c first = go (eqb c 0) refl (eqb c 1 || eqb c 16) (eqb c 32) (e
     go false p false false true = refl
     go false p false false false = refl
 
-module _ (r : Records) (end : ℕ) (p : Piece) (met : Met r end p) (few : end ≤ length (r .kinds)) (w : Whole (r .kinds) (r .places) (r .keys)) where
+module _ (r : Records) (end : ℕ) (p : CommandAt) (met : Met r end p) (few : end ≤ length (r .kinds)) (w : Whole (r .kinds) (r .places) (r .keys)) where
   key-size : (i : ℕ) → i < end → getD (r .kinds) i 0 ≡ 3 → length (keyOf r i) ≡ 32
   key-size i h e = length-take-le 32 (drop (getD (r .places) i 0) (r .keys)) (rw length-drop (omega (arith, w .whole i (omega arith) e)))
 

@@ -13,7 +13,7 @@ use Rattle.productions.specs.Before.{before}
 use Rattle.productions.specs.Noted.{Rows}
 use Rattle.productions.specs.Ending.{kindAt, ownCode, production, productionOf, rowAt}
 use Rattle.emission.specs.declared.Judged.{Judged}
-use Rattle.emission.specs.declared.Piece.{Piece}
+use Rattle.emission.specs.declared.CommandAt.{CommandAt}
 
 -- a part of the code, and the number of its tokens
 pub record Part : Type 0 where
@@ -104,8 +104,8 @@ placedPiece r c first =
 abbrev pub put : List ℕ → ℕ → List ℕ → List ℕ
 put buffer at bytes = take (at - length bytes) buffer ++ (bytes ++ drop at buffer)
 
--- the piece that the tokens before `end` end with, by its command and the place of its first token
-pub record Met (r : Records) (end : ℕ) (p : Piece) : Type 0 where
+-- the command that the tokens before `end` end with: its piece, and the place of its first token
+pub record Met (r : Records) (end : ℕ) (p : CommandAt) : Type 0 where
   pub bytes : part (before (tokenAt r) end) .bytes ≡ placedPiece r (p .command) (p .first)
   pub width : p .first + part (before (tokenAt r) end) .width ≡ end
   pub falls : p .first < end
@@ -113,12 +113,12 @@ pub record Met (r : Records) (end : ℕ) (p : Piece) : Type 0 where
   pub oracleW : p .command ≡ priceOracle1W → (p .first + 8 < end) × (getD (r .kinds) (p .first + 8) 0 ≡ 3)
 
 -- the same, where the rows before `end` are noted, whatever the records carry beside their kinds
-pub record Noticed (kinds rows : List ℕ) (end : ℕ) (p : Piece) : Type 0 where
+pub record Noticed (kinds rows : List ℕ) (end : ℕ) (p : CommandAt) : Type 0 where
   pub falls : p .first < end
   pub met : (numbers places keys : List ℕ) → Rows (recordsOf kinds numbers places keys) rows end → Met (recordsOf kinds numbers places keys) end p
 
 -- what writing a piece needs of the slices
-pub record Placed (numbers places keys : List ℕ) (p : Piece) : Type 0 where
+pub record Placed (numbers places keys : List ℕ) (p : CommandAt) : Type 0 where
   pub number : p .first < length numbers
   pub oracle : p .command ≡ priceOracle1
       → (p .first + 7 < length numbers) × (p .first + 7 < length places) × (getD places (p .first + 7) 0 + 32 ≤ length keys)

@@ -33,8 +33,12 @@ const PRICE_ORACLE_1: u8 = 32;
 
 const PRICE_ORACLE_1W: u8 = 33;
 
-// Bytes of a key, of a command with a number, and of one with a key and a time.
+// Bytes of a number, of a key, and of a key with a time; then of the pieces that have them: a command with a number, and one with a key and a time.
+const NUMBER_BYTES: usize = 8;
+
 const KEY_BYTES: usize = 32;
+
+const KEY_AND_TIME_BYTES: usize = 40;
 
 const NUMBER_PIECE: usize = 9;
 
@@ -49,8 +53,8 @@ const TIME_W: usize = 3;
 
 const KEY_W: usize = 8;
 
-// A piece's command, 0 where it has none, and the place of its first token.
-pub struct Piece {
+// A command, 0 where there is none, and the place of its first token.
+pub struct CommandAt {
     pub command: u8,
     pub first: usize,
 }
@@ -61,14 +65,14 @@ pub enum Judged {
     Broken,
 }
 
-// The piece that the tokens before `end` end with; `Input` of the current index is `CurrInputIdx`.
-fn last_piece(kinds: &[u8], rows: &[u8; MAX_TOKENS], end: usize) -> Piece
+// The command that the tokens before `end` end with; `Input` of the current index is `CurrInputIdx`.
+fn last_command(kinds: &[u8], rows: &[u8; MAX_TOKENS], end: usize) -> CommandAt
     requires { ⌜ Fitting (now rows) end × (end ≤ length (now kinds)) × (0 < end) ⌝ }
     ensures { λ r. ⌜ Noticed (now (kinds .entry)) (now (rows .entry)) end r ⌝ }
 {
     let row = row_before(rows, end);
     if ROWS <= row {
-        return Piece {
+        return CommandAt {
             command: 0,
             first: end - 1,
         };
@@ -76,19 +80,19 @@ fn last_piece(kinds: &[u8], rows: &[u8; MAX_TOKENS], end: usize) -> Piece
     let start = end - width(row);
     if row == INPUT {
         if kind_before(kinds, start, 0) == CURR_INP {
-            return Piece {
+            return CommandAt {
                 command: CURR_INPUT_IDX,
                 first: start - 1,
             };
         }
     }
-    Piece {
+    CommandAt {
         command: command(row),
         first: start,
     }
 }
 
-// The number of bytes of a piece: its command, and an operand of eight or forty bytes.
+// The number of bytes of a command's piece: the command, and an operand of eight or forty bytes.
 fn size(command: u8) -> usize
     ensures { λ r. ⌜ r ≡ sizeOf command ⌝ }
 {
@@ -132,11 +136,11 @@ pub fn judge(kinds: &[u8], rows: &[u8; MAX_TOKENS], start: usize) -> Judged
     let mut first: u8 = 0;
     let mut later = false;
     while start < end {
-        let p = last_piece(kinds, rows, end);
+        let last = last_command(kinds, rows, end);
         later = among_later(later, first);
-        first = p.command;
-        bytes += size(p.command);
-        end = p.first;
+        first = last.command;
+        bytes += size(last.command);
+        end = last.first;
     }
     if later {
         return Judged::Broken;
@@ -160,7 +164,7 @@ fn put_number(code: &mut [u8], at: usize, command: u8, number: u64)
     ensures { λ _. ⌜ now (code .exit) ≡ put (now (code .entry)) at (command ∷ littleEndian 8 number) ⌝ }
 {
     code[at - NUMBER_PIECE] = command;
-    slices::write_le64(code, at - 8, number);
+    slices::write_le64(code, at - NUMBER_BYTES, number);
 }
 
 // A command with a key of 32 bytes and a time of eight, which end at `at`.
@@ -170,19 +174,26 @@ fn put_oracle(code: &mut [u8], at: usize, command: u8, keys: &[u8], place: usize
         (command ∷ take 32 (drop place (now (keys .entry))) ++ littleEndian 8 time) ⌝ }
 {
     code[at - ORACLE_PIECE] = command;
-    slices::copy(keys, place, code, at - 40, KEY_BYTES);
-    slices::write_le64(code, at - 8, time);
+    slices::copy(keys, place, code, at - KEY_AND_TIME_BYTES, KEY_BYTES);
+    slices::write_le64(code, at - NUMBER_BYTES, time);
 }
 
-// The bytes of a piece, which end at `at`.
-fn put_piece(numbers: &[u64], places: &[u32], keys: &[u8], p: Piece, code: &mut [u8], at: usize)
-    requires { ⌜ Placed (now numbers) (now places) (now keys) p ⌝ }
-    requires { ⌜ (sizeOf (p .command) ≤ at) × (at ≤ length (now code)) ⌝ }
+// The piece of a command with its operands, which ends at `at`.
+fn put_command(
+    numbers: &[u64],
+    places: &[u32],
+    keys: &[u8],
+    last: CommandAt,
+    code: &mut [u8],
+    at: usize,
+)
+    requires { ⌜ Placed (now numbers) (now places) (now keys) last ⌝ }
+    requires { ⌜ (sizeOf (last .command) ≤ at) × (at ≤ length (now code)) ⌝ }
     ensures { λ _. ⌜ now (code .exit) ≡ put (now (code .entry)) at
-        (placedPiece (recordsOf [] (now (numbers .entry)) (now (places .entry)) (now (keys .entry))) (p .command) (p .first)) ⌝ }
+        (placedPiece (recordsOf [] (now (numbers .entry)) (now (places .entry)) (now (keys .entry))) (last .command) (last .first)) ⌝ }
 {
-    let command = p.command;
-    let first = p.first;
+    let command = last.command;
+    let first = last.first;
     if command == 0 {
         return;
     }
@@ -238,9 +249,9 @@ pub fn emit(
     let mut end = kinds.len();
     let mut at = bytes;
     while start < end {
-        let p = last_piece(kinds, rows, end);
-        put_piece(numbers, places, keys, p, code, at);
-        at -= size(p.command);
-        end = p.first;
+        let last = last_command(kinds, rows, end);
+        put_command(numbers, places, keys, last, code, at);
+        at -= size(last.command);
+        end = last.first;
     }
 }

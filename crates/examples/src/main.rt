@@ -301,24 +301,17 @@ fn tails() {
     );
 }
 
-// Left `Const` + `PriceOracle1`, right `Const`; then left `PriceOracle1W`, right `PriceOracle1`.
+// Each terminal has the key 4, 5, .. 35 and the time 5.
 fn oracle_rule() {
-    let mut code = [0u8; 83];
-    code[0] = 16;
-    code[9] = 32;
-    code[50] = 22;
-    code[51] = 16;
-    code[60] = 48;
-    check(b"12  Check: Const + PriceOracle1 Eq Const", &code[..61]);
-    code = [0; 83];
-    code[0] = 33;
-    code[41] = 32;
-    code[82] = 48;
-    check(b"    Check: PriceOracle1W Eq PriceOracle1", &code);
+    let later =
+        b"\x10\x05\x00\x00\x00\x00\x00\x00\x00\x20\x04\x05\x06\x07\x08\x09\x0a\x0b\x0c\x0d\x0e\x0f\x10\x11\x12\x13\x14\x15\x16\x17\x18\x19\x1a\x1b\x1c\x1d\x1e\x1f\x20\x21\x22\x23\x05\x00\x00\x00\x00\x00\x00\x00\x16\x10\x09\x00\x00\x00\x00\x00\x00\x00\x30";
+    check(b"12  Check: Const + PriceOracle1 Eq Const", later);
+    let first =
+        b"\x21\x04\x05\x06\x07\x08\x09\x0a\x0b\x0c\x0d\x0e\x0f\x10\x11\x12\x13\x14\x15\x16\x17\x18\x19\x1a\x1b\x1c\x1d\x1e\x1f\x20\x21\x22\x23\x05\x00\x00\x00\x00\x00\x00\x00\x20\x04\x05\x06\x07\x08\x09\x0a\x0b\x0c\x0d\x0e\x0f\x10\x11\x12\x13\x14\x15\x16\x17\x18\x19\x1a\x1b\x1c\x1d\x1e\x1f\x20\x21\x22\x23\x05\x00\x00\x00\x00\x00\x00\x00\x30";
+    check(b"    Check: PriceOracle1W Eq PriceOracle1", first);
 }
 
-// The amount of the input before the current one is 2^63, taken as a signed number. Then the left operand of an index product is made a 64-bit number
-// before the right one is pushed.
+// The amount of the input before the current one is 2^63, taken as a signed number.
 fn indexes() {
     let less_one =
         b"\x02\x01\x01\x00\x00\x00\x00\x00\x00\x00\x04\x12\x10\x00\x00\x00\x00\x00\x00\x00\x80\x30";
@@ -332,6 +325,10 @@ fn indexes() {
         less_one,
         1,
     );
+}
+
+// Not one of the thirteen: the left operand of an index product is made a 64-bit number before the right one is pushed.
+fn index_product() {
     let times_three =
         b"\x02\x01\x03\x00\x00\x00\x00\x00\x00\x00\x05\x13\x10\x05\x00\x00\x00\x00\x00\x00\x00\x30";
     write(b"    Write: Output(CurrIdx * 3) Eq 5", times_three);
@@ -345,4 +342,6 @@ fn main() {
     tails();
     oracle_rule();
     indexes();
+    text(b"\nbeside document 01's thirteen\n");
+    index_product();
 }

@@ -3,7 +3,6 @@ use Prim.Native.Nat.{ℕ, _-_, _^_}
 use mathlib.Core.Bool.{cond}
 use mathlib.Core.Path.{_≡_, refl}
 use mathlib.Core.List.{List, [], _∷_, _++_, map}
-use lib.ListN.{replicate}
 use lib.IntN.{ℤ, pos, negℤ}
 use Rattle.num64.specs.Exact.{checkedAdd, checkedNeg, checkedDiv, checkedRem}
 use Rattle.word64.specs.Bits.{signedOf, bitsOf}
@@ -79,8 +78,9 @@ five = Expr.Const 5
 abbrev isBefore : List ℕ
 isBefore = eq (Expr.Lookup AmountList.Input (IdxExpr.Op IdxOp.Sub IdxExpr.CurrIdx (IdxExpr.Const 1))) (const (minus (2 ^ 63)))
 
+-- 4, 5, .. 35: the x coordinate of a point, as an oracle's key must be
 abbrev key : List ℕ
-key = replicate 32 0
+key = 4 ∷ 5 ∷ 6 ∷ 7 ∷ 8 ∷ 9 ∷ 10 ∷ 11 ∷ 12 ∷ 13 ∷ 14 ∷ 15 ∷ 16 ∷ 17 ∷ 18 ∷ 19 ∷ 20 ∷ 21 ∷ 22 ∷ 23 ∷ 24 ∷ 25 ∷ 26 ∷ 27 ∷ 28 ∷ 29 ∷ 30 ∷ 31 ∷ 32 ∷ 33 ∷ 34 ∷ 35 ∷ []
 
 pub examples : List (List ℤ × List ℤ)
 examples =

@@ -153,8 +153,8 @@ readings =
     ∷ (answer price env (signature ++ littleEndian 8 6 ++ littleEndian 8 9) (64 ∷ 72 ∷ 80 ∷ []) room, bare 39 ++ 0 ∷ 0 ∷ [])
     -- a price of 2^63: its own check is written
     ∷ (answer price env (signature ++ littleEndian 8 5 ++ littleEndian 8 (2 ^ 63)) (64 ∷ 72 ∷ 80 ∷ []) room, bare 40 ++ 1 ∷ 0 ∷ [])
-    -- true, one element left below; the check is key, the terminal's time, price, signature, and the buffer's rest is kept
-    ∷ (answer price env (signature ++ littleEndian 8 4 ++ littleEndian 8 9) (0 ∷ 64 ∷ 72 ∷ 80 ∷ []) room, 0 ∷ 1 ∷ 0 ∷ 1 ∷ 1 ∷ [])
+    -- true, with one check and two elements left below; the check is key, the terminal's time, price, signature, and the buffer's rest is kept
+    ∷ (answer price env (signature ++ littleEndian 8 4 ++ littleEndian 8 9) (0 ∷ 0 ∷ 64 ∷ 72 ∷ 80 ∷ []) room, 0 ∷ 1 ∷ 0 ∷ 1 ∷ 2 ∷ [])
     ∷ (on price env (signature ++ littleEndian 8 4 ++ littleEndian 8 9) (64 ∷ 72 ∷ 80 ∷ []) room .buffer, key ++ littleEndian 8 5 ++ littleEndian 8 9 ++ signature ++ 1 ∷ 1 ∷ [])
     -- 8 before 12 before 7, all elements left, and no byte written
     ∷ (answer price unpaired (0 ∷ []) (3 ∷ 2 ∷ []) [], bare 8 ++ 0 ∷ 2 ∷ []) ∷ (answer price env (0 ∷ []) (3 ∷ 2 ∷ []) [], bare 12 ++ 0 ∷ 2 ∷ [])

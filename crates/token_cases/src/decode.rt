@@ -23,15 +23,16 @@ fn filled() -> [u8; ROOM]
     [FILL; ROOM]
 }
 
-fn called(body: &[u8], code: &mut [u8]) -> DecodeAnswer
+// The call, with the parts of the case lent.
+fn call(body: &[u8], code: &mut [u8]) -> DecodeAnswer
     ensures { λ r. ⌜ r ≡ decodeAnswer (decoded (decodeLent (now (body .entry))) (now (code .entry)) .answer) ⌝ }
     ensures { λ _. ⌜ now (code .exit) ≡ decoded (decodeLent (now (body .entry))) (now (code .entry)) .buffer ⌝ }
 {
-    let mut numbers = [0u64; RECORDS];
-    let mut places = [0u32; RECORDS];
-    let n = words(body, 1, &mut numbers);
-    let p = halves(body, 2, &mut places);
-    covenant::covenant_decode(part(body, 0), n, p, part(body, 3), code)
+    let mut number_slots = [0u64; RECORDS];
+    let mut place_slots = [0u32; RECORDS];
+    let numbers = words(body, 1, &mut number_slots);
+    let places = halves(body, 2, &mut place_slots);
+    covenant::covenant_decode(part(body, 0), numbers, places, part(body, 3), code)
 }
 
 pub fn agrees(body: &[u8]) -> bool
@@ -43,7 +44,13 @@ pub fn agrees(body: &[u8]) -> bool
     if ROOM < room {
         return false;
     }
-    let a = called(body, &mut code[..room]);
-    let numbers = [room as u64, a.number as u64, a.place, a.code_bytes, a.start];
+    let answer = call(body, &mut code[..room]);
+    let numbers = [
+        room as u64,
+        answer.number as u64,
+        answer.place,
+        answer.code_bytes,
+        answer.start,
+    ];
     knows(known, &numbers, &code, part(body, 5))
 }

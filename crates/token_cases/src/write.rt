@@ -42,7 +42,8 @@ fn filled_keys() -> [u8; KEYS]
     [FILL; KEYS]
 }
 
-fn called(
+// The call, with the rooms of the case lent.
+fn call(
     body: &[u8],
     kinds: &mut [u8],
     numbers: &mut [u64],
@@ -52,16 +53,16 @@ fn called(
     ensures { λ r. ⌜ Leaves (now (body .entry)) (recordsOf (now (kinds .entry)) (now (numbers .entry)) (now (places .entry)) (now (keys .entry))) (recordsOf (now (kinds .exit)) (now (numbers .exit)) (now (places .exit)) (now (keys .exit))) r ⌝ }
 {
     let known = part(body, 1);
-    let a = at_most(word(known, 0), kinds.len());
-    let b = at_most(word(known, 1), numbers.len());
-    let c = at_most(word(known, 2), places.len());
-    let d = at_most(word(known, 3), keys.len());
+    let kind_room = at_most(word(known, 0), kinds.len());
+    let number_room = at_most(word(known, 1), numbers.len());
+    let place_room = at_most(word(known, 2), places.len());
+    let key_room = at_most(word(known, 3), keys.len());
     covenant::covenant_write(
         part(body, 0),
-        &mut kinds[..a],
-        &mut numbers[..b],
-        &mut places[..c],
-        &mut keys[..d],
+        &mut kinds[..kind_room],
+        &mut numbers[..number_room],
+        &mut places[..place_room],
+        &mut keys[..key_room],
     )
 }
 
@@ -72,6 +73,6 @@ pub fn agrees(body: &[u8]) -> bool
     let mut numbers = filled_words();
     let mut places = filled_places();
     let mut keys = filled_keys();
-    let a = called(body, &mut kinds, &mut numbers, &mut places, &mut keys);
-    all_known(body, a, &kinds, &numbers, &places, &keys)
+    let answer = call(body, &mut kinds, &mut numbers, &mut places, &mut keys);
+    all_known(body, answer, &kinds, &numbers, &places, &keys)
 }

@@ -18,7 +18,7 @@ use Rattle.semantics.specs.declared.UnOp.{UnOp}
 use Rattle.semantics.proofs.Forms.{keys-append}
 use Rattle.semantics.specs.Operations.{Token}
 use Rattle.token_form.specs.Fields.{bit, numberAt, payload, placeAt}
-use Rattle.token_table.specs.Runs.{converted, ownTokens, run, runOf}
+use Rattle.token_table.specs.TokenRows.{converted, ownTokens, tokensOf, tokenRow}
 use Rattle.token_form.specs.Storing.{keysOf, placesFrom}
 use Rattle.semantics.specs.Code.{known}
 
@@ -37,9 +37,9 @@ places-append p (t ∷ ts) us =
 -- then the numbers, places and key bytes that go with these kinds
 abbrev Row : Command → Type 0
 Row c =
-    (ltb (runOf c .count) 14 ≡ true)
-    × ((n : List ℕ) → length (ownTokens c n) ≡ runOf c .count)
-    × ((n : List ℕ) → take (runOf c .count + 1) (runOf c .kinds) ≡ kindsOf (ownTokens c n) ++ 7 ∷ [])
+    (ltb (tokenRow c .count) 14 ≡ true)
+    × ((n : List ℕ) → length (ownTokens c n) ≡ tokenRow c .count)
+    × ((n : List ℕ) → take (tokenRow c .count + 1) (tokenRow c .kinds) ≡ kindsOf (ownTokens c n) ++ 7 ∷ [])
     × ((n : List ℕ) → map (numberAt (payload c n .number) (payload c n .bits)) (kindsOf (ownTokens c n)) ≡ map (λ t. t .number) (ownTokens c n))
     × ((n : List ℕ) (p : ℕ) → map (placeAt p) (kindsOf (ownTokens c n)) ≡ placesFrom p (ownTokens c n))
     × ((n : List ℕ) → keysOf (ownTokens c n) ≡ payload c n .key)
@@ -94,32 +94,32 @@ row (Command.Compare o) k =
     ]
 
 module _ (c : Command) (k : known c ≡ true) (n : List ℕ) where
-  pub run-short : runOf c .count < 14
-  run-short = ltb-true (runOf c .count) 14 (row c k .0)
+  pub row-short : tokenRow c .count < 14
+  row-short = ltb-true (tokenRow c .count) 14 (row c k .0)
 
-  pub run-length : (b : Bool) → length (run c n b) ≡ runOf c .count + bit b
-  run-length true = length-append (ownTokens c n) (converted true) ∙ ap (λ (m : ℕ). m + 1) (row c k .1 n)
-  run-length false = length-append (ownTokens c n) (converted false) ∙ ap (λ (m : ℕ). m + 0) (row c k .1 n)
+  pub tokens-length : (b : Bool) → length (tokensOf c n b) ≡ tokenRow c .count + bit b
+  tokens-length true = length-append (ownTokens c n) (converted true) ∙ ap (λ (m : ℕ). m + 1) (row c k .1 n)
+  tokens-length false = length-append (ownTokens c n) (converted false) ∙ ap (λ (m : ℕ). m + 0) (row c k .1 n)
 
-  pub run-kinds : (b : Bool) → take (runOf c .count + bit b) (runOf c .kinds) ≡ kindsOf (run c n b)
-  run-kinds true = row c k .2 n ∙ sym (map-append (λ t. t .kind) (ownTokens c n) (converted true))
-  run-kinds false =
+  pub tokens-kinds : (b : Bool) → take (tokenRow c .count + bit b) (tokenRow c .kinds) ≡ kindsOf (tokensOf c n b)
+  tokens-kinds true = row c k .2 n ∙ sym (map-append (λ t. t .kind) (ownTokens c n) (converted true))
+  tokens-kinds false =
       let ks = kindsOf (ownTokens c n) in
-      let m = runOf c .count in
+      let m = tokenRow c .count in
       let l : length ks ≡ m = length-map (ownTokens c n) (λ t. t .kind) ∙ row c k .1 n in
       rw (add-zero m, append-nil (ownTokens c n))
-      (sym (take-take m (m + 1) (runOf c .kinds) (omega arith)) ∙ ap (take m) (row c k .2 n) ∙ take-at ks (7 ∷ []) m l)
+      (sym (take-take m (m + 1) (tokenRow c .kinds) (omega arith)) ∙ ap (take m) (row c k .2 n) ∙ take-at ks (7 ∷ []) m l)
 
-  pub run-numbers : (b : Bool) → map (numberAt (payload c n .number) (payload c n .bits)) (kindsOf (run c n b)) ≡ map (λ t. t .number) (run c n b)
-  run-numbers true = simp map-append (rw (row c k .3 n))
-  run-numbers false = simp append-nil (row c k .3 n)
+  pub tokens-numbers : (b : Bool) → map (numberAt (payload c n .number) (payload c n .bits)) (kindsOf (tokensOf c n b)) ≡ map (λ t. t .number) (tokensOf c n b)
+  tokens-numbers true = simp map-append (rw (row c k .3 n))
+  tokens-numbers false = simp append-nil (row c k .3 n)
 
-  pub run-places : (b : Bool) (p : ℕ) → map (placeAt p) (kindsOf (run c n b)) ≡ placesFrom p (run c n b)
+  pub tokens-places : (b : Bool) (p : ℕ) → map (placeAt p) (kindsOf (tokensOf c n b)) ≡ placesFrom p (tokensOf c n b)
   unfolding placesFrom
-  run-places true p = simp (map-append, places-append) (rw (row c k .4 n p))
-  run-places false p = simp append-nil (row c k .4 n p)
+  tokens-places true p = simp (map-append, places-append) (rw (row c k .4 n p))
+  tokens-places false p = simp append-nil (row c k .4 n p)
 
-  pub run-keys : (b : Bool) → keysOf (run c n b) ≡ payload c n .key
+  pub tokens-keys : (b : Bool) → keysOf (tokensOf c n b) ≡ payload c n .key
   unfolding keysOf
-  run-keys true = keys-append (ownTokens c n) (converted true) ∙ append-nil (keysOf (ownTokens c n)) ∙ row c k .5 n
-  run-keys false = simp append-nil (row c k .5 n)
+  tokens-keys true = keys-append (ownTokens c n) (converted true) ∙ append-nil (keysOf (ownTokens c n)) ∙ row c k .5 n
+  tokens-keys false = simp append-nil (row c k .5 n)

@@ -9,24 +9,24 @@ use Rattle.semantics.specs.declared.Command.{Command}
 use Rattle.semantics.specs.Evaluate.{over}
 use Rattle.semantics.specs.Operations.{Token}
 use Rattle.semantics.specs.Records.{Records}
-use Rattle.token_table.specs.Runs.{ownTokens, run}
+use Rattle.token_table.specs.TokenRows.{ownTokens, tokensOf}
 use Rattle.token_form.specs.Storing.{Room, Stored, keysOf, placesFrom}
 
 abbrev pub token : ℕ → ℕ → Token
 token kind number = record { kind = kind; number = number; key = [] }
 
 module _ (c : Command) (n : List ℕ) (marked : Bool) (m : marked ≡ false) (kind number : ℕ) (is : ownTokens c n ≡ token kind number ∷ []) where
-  pub run-one : run c n marked ≡ token kind number ∷ []
-  run-one = rw (m, is)
+  pub one-token : tokensOf c n marked ≡ token kind number ∷ []
+  one-token = rw (m, is)
 
-  pub one-asks : (r : Records) → Room (run c n marked) r → (1 ≤ length (r .kinds)) × (1 ≤ length (r .numbers)) × (1 ≤ length (r .places))
-  one-asks r room = (rw run-one at (room .kinds), rw run-one at (room .numbers), rw run-one at (room .places))
+  pub one-asks : (r : Records) → Room (tokensOf c n marked) r → (1 ≤ length (r .kinds)) × (1 ≤ length (r .numbers)) × (1 ≤ length (r .places))
+  one-asks r room = (rw one-token at (room .kinds), rw one-token at (room .numbers), rw one-token at (room .places))
 
-  pub one-counts : (1 ≡ length (run c n marked)) × (0 ≡ length (keysOf (run c n marked)))
+  pub one-counts : (1 ≡ length (tokensOf c n marked)) × (0 ≡ length (keysOf (tokensOf c n marked)))
   unfolding keysOf
-  one-counts = (rw run-one, rw run-one)
+  one-counts = (rw one-token, rw one-token)
 
   pub one-leaves : (p : ℕ) (old new : Records) → eqb kind 3 ≡ false → new .kinds ≡ over (kind ∷ []) (old .kinds) → new .numbers ≡ over (number ∷ []) (old .numbers)
-      → new .places ≡ over (0 ∷ []) (old .places) → new .keys ≡ old .keys → Stored (run c n marked) p old new
+      → new .places ≡ over (0 ∷ []) (old .places) → new .keys ≡ old .keys → Stored (tokensOf c n marked) p old new
   unfolding keysOf placesFrom
-  one-leaves p old new e x y z w = rw run-one (record { kinds = x; numbers = y; places = rw e z; keys = w })
+  one-leaves p old new e x y z w = rw one-token (record { kinds = x; numbers = y; places = rw e z; keys = w })

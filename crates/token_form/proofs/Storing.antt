@@ -18,32 +18,32 @@ use Rattle.semantics.proofs.Machine.{fold-ends, fold-takes}
 use Rattle.semantics.proofs.Placing.{length-places}
 use Rattle.summary.specs.declared.Summary.{Summary}
 use Rattle.condition.specs.Walk.{next, start}
-use Rattle.token_table.specs.declared.Run.{Run}
+use Rattle.token_table.specs.declared.TokenRow.{TokenRow}
 use Rattle.token_form.specs.Fields.{bit, numberAt, payload, placeAt}
 use Rattle.semantics.specs.Parse.{operandBytes}
-use Rattle.token_table.specs.Runs.{run, runOf}
+use Rattle.token_table.specs.TokenRows.{tokensOf, tokenRow}
 use Rattle.token_form.specs.Storing.{Coded, Emission, Room, Stored, emitStep, emitted, keysOf, placesFrom}
 use Rattle.condition.proofs.Ahead.{Ahead, ahead-below, ahead-known, ahead-next, ahead-start, passes-on}
 use Rattle.token_form.proofs.Over.{length-over, over-lent, over-rest}
 use Rattle.semantics.proofs.Forms.{keys-append}
-use Rattle.token_form.proofs.Rows.{places-append, run-keys, run-kinds, run-length, run-numbers, run-places}
+use Rattle.token_form.proofs.Rows.{places-append, tokens-keys, tokens-kinds, tokens-length, tokens-numbers, tokens-places}
 
 -- ---- one command, of which `records` is the number of tokens
 
-module _ (c : Command) (k : known c ≡ true) (n : List ℕ) (marked : Bool) (own : Run) (is : own ≡ runOf c) (records : ℕ) (counted : records ≡ own .count + bit marked) where
+module _ (c : Command) (k : known c ≡ true) (n : List ℕ) (marked : Bool) (own : TokenRow) (is : own ≡ tokenRow c) (records : ℕ) (counted : records ≡ own .count + bit marked) where
   abbrev kinds : List ℕ
   kinds = take records (own .kinds)
 
-  pub records-are : records ≡ length (run c n marked)
-  records-are = counted ∙ ap (λ (r : Run). r .count + bit marked) is ∙ sym (run-length c k n marked)
+  pub records-are : records ≡ length (tokensOf c n marked)
+  records-are = counted ∙ ap (λ (r : TokenRow). r .count + bit marked) is ∙ sym (tokens-length c k n marked)
 
-  kinds-are : kinds ≡ map (λ t. t .kind) (run c n marked)
-  kinds-are = rw (counted, is) (run-kinds c k n marked)
+  kinds-are : kinds ≡ map (λ t. t .kind) (tokensOf c n marked)
+  kinds-are = rw (counted, is) (tokens-kinds c k n marked)
 
-  pub row-asks : (r : Records) → Room (run c n marked) r
+  pub row-asks : (r : Records) → Room (tokensOf c n marked) r
       → (records ≤ length (own .kinds)) × (records ≤ length (r .kinds)) × (records ≤ length (r .numbers)) × (records ≤ length (r .places))
   row-asks r room =
-      let l = ap length kinds-are ∙ length-map (run c n marked) (λ t. t .kind) in (
+      let l = ap length kinds-are ∙ length-map (tokensOf c n marked) (λ t. t .kind) in (
         omega (arith, simp length-take at l, records-are),
         omega (arith, records-are, room .kinds),
         omega (arith, records-are, room .numbers),
@@ -55,13 +55,13 @@ module _ (c : Command) (k : known c ≡ true) (n : List ℕ) (marked : Bool) (ow
       → new .numbers ≡ over (map (numberAt number bits) kinds) (old .numbers)
       → new .places ≡ over (map (placeAt p) kinds) (old .places)
       → new .keys ≡ over (payload c n .key) (old .keys)
-      → Stored (run c n marked) p old new
+      → Stored (tokensOf c n marked) p old new
   row-leaves number bits p old new e x y z w =
       record {
         kinds = rw kinds-are at x;
-        numbers = rw (kinds-are, e .0, e .1, run-numbers c k n marked) at y;
-        places = rw (kinds-are, run-places c k n marked p) at z;
-        keys = rw (← run-keys c k n marked) at w;
+        numbers = rw (kinds-are, e .0, e .1, tokens-numbers c k n marked) at y;
+        places = rw (kinds-are, tokens-places c k n marked p) at z;
+        keys = rw (← tokens-keys c k n marked) at w;
       }
 
 -- ---- all commands up to a position
@@ -71,7 +71,7 @@ emitted-more : (ns : List Instruction) (s : Emission) → (more : List Token) ×
 emitted-more [] s = ([], sym (append-nil (s .tokens)))
 emitted-more (n ∷ ns) s =
     let r = emitted-more ns (emitStep s (commandOf (n .byte)) (n .operands)) in
-    (run (commandOf (n .byte)) (n .operands) (getD (s .marks) 0 false) ++ r .0, r .1 ∙ simp append-assoc)
+    (tokensOf (commandOf (n .byte)) (n .operands) (getD (s .marks) 0 false) ++ r .0, r .1 ∙ simp append-assoc)
 
 within : (xs ys more all : List Token) → xs ++ ys ++ more ≡ all
     → (length xs + length ys ≤ length all) × (length (keysOf xs) + length (keysOf ys) ≤ length (keysOf all))
@@ -163,7 +163,7 @@ module _ (code : List ℕ) (marks : List Bool) (old now : Records) (at count n k
 
     -- the command's tokens
     abbrev pub tokensHere : List Token
-    tokensHere = run command (operandBytes command code (at + 1)) (getD marks count false)
+    tokensHere = tokensOf command (operandBytes command code (at + 1)) (getD marks count false)
 
     left-now : fold emitStep (record { marks = drop (count + 1) marks; tokens = g .done ++ tokensHere }) (instructions (drop (after code at) code)) .tokens ≡ all
     left-now =

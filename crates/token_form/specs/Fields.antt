@@ -9,7 +9,7 @@ use Rattle.slices.specs.Bytes.{bytesValue}
 use Rattle.semantics.specs.declared.Command.{Command}
 use Rattle.semantics.specs.Code.{commandRow}
 use Rattle.semantics.specs.Operations.{Token, op}
-use Rattle.token_table.specs.Runs.{ownTokens}
+use Rattle.token_table.specs.TokenRows.{ownTokens}
 
 -- the tokens that a mark adds
 abbrev pub bit : Bool → ℕ

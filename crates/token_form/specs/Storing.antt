@@ -12,7 +12,7 @@ use Rattle.semantics.specs.Records.{Records}
 use Rattle.summary.specs.declared.Summary.{Summary}
 use Rattle.condition.specs.declared.Walked.{Walked}
 use Rattle.condition.specs.Walk.{walked}
-use Rattle.token_table.specs.Runs.{run}
+use Rattle.token_table.specs.TokenRows.{tokensOf}
 unfoldable pub use Rattle.semantics.specs.Write.{keysOf, placesFrom}
 
 -- the tokens of some commands, and the marks of those after them
@@ -21,7 +21,7 @@ pub record Emission : Type 0 where
   pub tokens : List Token
 
 abbrev pub emitStep : Emission → Command → List ℕ → Emission
-emitStep s c n = record { marks = drop 1 (s .marks); tokens = s .tokens ++ run c n (getD (s .marks) 0 false) }
+emitStep s c n = record { marks = drop 1 (s .marks); tokens = s .tokens ++ tokensOf c n (getD (s .marks) 0 false) }
 
 -- the tokens of code whose commands have these marks
 unfoldable pub emitted : List ℕ → List Bool → List Token

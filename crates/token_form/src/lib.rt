@@ -3,7 +3,7 @@
 use commands::command_of;
 use commands::width_of;
 use semantics::Command;
-use token_table::run_of;
+use token_table::token_row;
 ghost use mathlib.Core.Bool.{true};
 ghost use mathlib.Core.Path.{_≡_};
 ghost use mathlib.Core.List.{[], _∷_, map};
@@ -13,7 +13,7 @@ ghost use Rattle.semantics.specs.Code.{commandOf, commandRow, known};
 ghost use Rattle.semantics.specs.Evaluate.{over};
 ghost use Rattle.token_form.specs.Fields.{Single, bit, numberAt, payload, placeAt};
 ghost use Rattle.semantics.specs.Parse.{operandBytes};
-ghost use Rattle.token_table.specs.Runs.{run};
+ghost use Rattle.token_table.specs.TokenRows.{tokensOf};
 ghost use Rattle.semantics.specs.Records.{recordsOf};
 ghost use Rattle.token_form.specs.Storing.{Coded, Room, Stored, emitted, keysOf};
 
@@ -166,11 +166,11 @@ fn write_command(
     keys: &mut [u8],
 ) -> Taken
     requires { ⌜ (known command ≡ true) × (at + commandRow command .width ≤ length (now code)) × (place < 2 ^ 32) ⌝ }
-    requires { ⌜ Room (run command (operandBytes command (now code) at) marked) (recordsOf (now kinds) (now numbers) (now places) (now keys)) ⌝ }
-    ensures { λ r. ⌜ (r .records ≡ length (run command (operandBytes command (now (code .entry)) at) marked)) × (r .«key_bytes» ≡ length (keysOf (run command (operandBytes command (now (code .entry)) at) marked))) ⌝ }
-    ensures { λ _. ⌜ Stored (run command (operandBytes command (now (code .entry)) at) marked) place (recordsOf (now (kinds .entry)) (now (numbers .entry)) (now (places .entry)) (now (keys .entry))) (recordsOf (now (kinds .exit)) (now (numbers .exit)) (now (places .exit)) (now (keys .exit))) ⌝ }
+    requires { ⌜ Room (tokensOf command (operandBytes command (now code) at) marked) (recordsOf (now kinds) (now numbers) (now places) (now keys)) ⌝ }
+    ensures { λ r. ⌜ (r .records ≡ length (tokensOf command (operandBytes command (now (code .entry)) at) marked)) × (r .«key_bytes» ≡ length (keysOf (tokensOf command (operandBytes command (now (code .entry)) at) marked))) ⌝ }
+    ensures { λ _. ⌜ Stored (tokensOf command (operandBytes command (now (code .entry)) at) marked) place (recordsOf (now (kinds .entry)) (now (numbers .entry)) (now (places .entry)) (now (keys .entry))) (recordsOf (now (kinds .exit)) (now (numbers .exit)) (now (places .exit)) (now (keys .exit))) ⌝ }
 {
-    let own = run_of(command);
+    let own = token_row(command);
     let row = own.kinds;
     let records = count_of(own.count, marked);
     let n = numbers_of(command, code, at);
@@ -254,9 +254,9 @@ fn write_next(
     keys: &mut [u8],
 ) -> Next
     requires { ⌜ (known (commandOf byte) ≡ true) × (at + commandRow (commandOf byte) .width ≤ length (now code)) × (place < 2 ^ 32) ⌝ }
-    requires { ⌜ Room (run (commandOf byte) (operandBytes (commandOf byte) (now code) at) marked) (recordsOf (now kinds) (now numbers) (now places) (now keys)) ⌝ }
-    ensures { λ r. ⌜ (r .records ≡ length (run (commandOf byte) (operandBytes (commandOf byte) (now (code .entry)) at) marked)) × (r .«key_bytes» ≡ length (keysOf (run (commandOf byte) (operandBytes (commandOf byte) (now (code .entry)) at) marked))) × (r .width ≡ commandRow (commandOf byte) .width) ⌝ }
-    ensures { λ _. ⌜ Stored (run (commandOf byte) (operandBytes (commandOf byte) (now (code .entry)) at) marked) place (recordsOf (now (kinds .entry)) (now (numbers .entry)) (now (places .entry)) (now (keys .entry))) (recordsOf (now (kinds .exit)) (now (numbers .exit)) (now (places .exit)) (now (keys .exit))) ⌝ }
+    requires { ⌜ Room (tokensOf (commandOf byte) (operandBytes (commandOf byte) (now code) at) marked) (recordsOf (now kinds) (now numbers) (now places) (now keys)) ⌝ }
+    ensures { λ r. ⌜ (r .records ≡ length (tokensOf (commandOf byte) (operandBytes (commandOf byte) (now (code .entry)) at) marked)) × (r .«key_bytes» ≡ length (keysOf (tokensOf (commandOf byte) (operandBytes (commandOf byte) (now (code .entry)) at) marked))) × (r .width ≡ commandRow (commandOf byte) .width) ⌝ }
+    ensures { λ _. ⌜ Stored (tokensOf (commandOf byte) (operandBytes (commandOf byte) (now (code .entry)) at) marked) place (recordsOf (now (kinds .entry)) (now (numbers .entry)) (now (places .entry)) (now (keys .entry))) (recordsOf (now (kinds .exit)) (now (numbers .exit)) (now (places .exit)) (now (keys .exit))) ⌝ }
 {
     if !marked {
         let kind = kind_of(byte);

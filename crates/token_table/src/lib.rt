@@ -8,24 +8,24 @@ use semantics::IdxOp;
 use semantics::UnOp;
 ghost use mathlib.Core.Path.{_≡_};
 ghost use Rattle.semantics.specs.declared.Command.{Command};
-ghost use Rattle.token_table.specs.Runs.{runOf};
+ghost use Rattle.token_table.specs.TokenRows.{tokenRow};
 
 // The number of a command's own tokens, and their kinds. After these stands the 7 of ScriptNumToLe64, which is written only after the left operand of Mul or Div;
 // the rest is 0.
-pub struct Run {
+pub struct TokenRow {
     pub count: usize,
     pub kinds: [u8; 14],
 }
 
 // A row, from its two fields.
-fn row(count: usize, kinds: [u8; 14]) -> Run
+fn row(count: usize, kinds: [u8; 14]) -> TokenRow
     ensures { λ r. ⌜ r ≡ record { count = count; kinds = kinds } ⌝ }
 {
-    Run { count, kinds }
+    TokenRow { count, kinds }
 }
 
-fn index_run(op: IdxOp) -> Run
-    ensures { λ r. ⌜ r ≡ runOf (Command.Index op) ⌝ }
+fn index_row(op: IdxOp) -> TokenRow
+    ensures { λ r. ⌜ r ≡ tokenRow (Command.Index op) ⌝ }
 {
     match op {
         IdxOp::Add => row(1, [5, 7, 0, 0, 0, 0, 0, 0, 0, 0, 0, 0, 0, 0]),
@@ -35,8 +35,8 @@ fn index_run(op: IdxOp) -> Run
     }
 }
 
-fn lookup_run(list: AmountList) -> Run
-    ensures { λ r. ⌜ r ≡ runOf (Command.Lookup list) ⌝ }
+fn lookup_row(list: AmountList) -> TokenRow
+    ensures { λ r. ⌜ r ≡ tokenRow (Command.Lookup list) ⌝ }
 {
     match list {
         AmountList::Input => row(4, [22, 1, 14, 15, 7, 0, 0, 0, 0, 0, 0, 0, 0, 0]),
@@ -46,8 +46,8 @@ fn lookup_run(list: AmountList) -> Run
     }
 }
 
-fn binary_run(op: BinOp) -> Run
-    ensures { λ r. ⌜ r ≡ runOf (Command.Binary op) ⌝ }
+fn binary_row(op: BinOp) -> TokenRow
+    ensures { λ r. ⌜ r ≡ tokenRow (Command.Binary op) ⌝ }
 {
     match op {
         BinOp::Add => row(4, [11, 1, 14, 15, 7, 0, 0, 0, 0, 0, 0, 0, 0, 0]),
@@ -61,8 +61,8 @@ fn binary_run(op: BinOp) -> Run
     }
 }
 
-fn unary_run(op: UnOp) -> Run
-    ensures { λ r. ⌜ r ≡ runOf (Command.Unary op) ⌝ }
+fn unary_row(op: UnOp) -> TokenRow
+    ensures { λ r. ⌜ r ≡ tokenRow (Command.Unary op) ⌝ }
 {
     match op {
         UnOp::Invert => row(1, [21, 7, 0, 0, 0, 0, 0, 0, 0, 0, 0, 0, 0, 0]),
@@ -70,8 +70,8 @@ fn unary_run(op: UnOp) -> Run
     }
 }
 
-fn compare_run(op: CmpOp) -> Run
-    ensures { λ r. ⌜ r ≡ runOf (Command.Compare op) ⌝ }
+fn compare_row(op: CmpOp) -> TokenRow
+    ensures { λ r. ⌜ r ≡ tokenRow (Command.Compare op) ⌝ }
 {
     match op {
         CmpOp::Eq => row(1, [14, 7, 0, 0, 0, 0, 0, 0, 0, 0, 0, 0, 0, 0]),
@@ -83,21 +83,21 @@ fn compare_run(op: CmpOp) -> Run
 }
 
 // A command's row of the table.
-pub fn run_of(command: Command) -> Run
-    ensures { λ r. ⌜ r ≡ runOf command ⌝ }
+pub fn token_row(command: Command) -> TokenRow
+    ensures { λ r. ⌜ r ≡ tokenRow command ⌝ }
 {
     match command {
         Command::Unknown => row(0, [7, 0, 0, 0, 0, 0, 0, 0, 0, 0, 0, 0, 0, 0]),
         Command::IdxConst => row(1, [1, 7, 0, 0, 0, 0, 0, 0, 0, 0, 0, 0, 0, 0]),
         Command::CurrIdx => row(1, [4, 7, 0, 0, 0, 0, 0, 0, 0, 0, 0, 0, 0, 0]),
-        Command::Index(op) => index_run(op),
+        Command::Index(op) => index_row(op),
         Command::Const => row(1, [2, 7, 0, 0, 0, 0, 0, 0, 0, 0, 0, 0, 0, 0]),
         Command::CurrInputIdx => row(5, [4, 22, 1, 14, 15, 7, 0, 0, 0, 0, 0, 0, 0, 0]),
-        Command::Lookup(list) => lookup_run(list),
-        Command::Binary(op) => binary_run(op),
-        Command::Unary(op) => unary_run(op),
+        Command::Lookup(list) => lookup_row(list),
+        Command::Binary(op) => binary_row(op),
+        Command::Unary(op) => unary_row(op),
         Command::PriceOracle1 => row(10, [25, 26, 2, 28, 15, 32, 33, 3, 34, 27, 7, 0, 0, 0]),
         Command::PriceOracle1W => row(13, [26, 25, 26, 2, 28, 15, 32, 33, 3, 34, 27, 27, 35, 7]),
-        Command::Compare(op) => compare_run(op),
+        Command::Compare(op) => compare_row(op),
     }
 }

@@ -25,7 +25,7 @@ use Rattle.semantics.specs.Trees.{Arith, Expr, IdxExpr}
 use Rattle.semantics.proofs.Encodable.{Encodable, ExprEncodable, IdxEncodable}
 use Rattle.semantics.proofs.Machine.{fold-code, fold-map, onExpr, onIdx}
 use Rattle.conversions.specs.Marks.{Marking, converts, markStep, marksOf, narrowCode, narrowStep, unmarked}
-use Rattle.token_table.specs.Runs.{converted, ownTokens, run}
+use Rattle.token_table.specs.TokenRows.{converted, ownTokens, tokensOf}
 use Rattle.conversions.proofs.Narrow.{and-end, narrow-from}
 use Rattle.token_form.specs.Storing.{Emission, emitStep, emitted}
 
@@ -157,13 +157,13 @@ own-narrow Command.PriceOracle1 n = refl
 own-narrow Command.PriceOracle1W n = refl
 own-narrow (Command.Compare o) n = elim o [ CmpOp.Eq ↦ refl | CmpOp.Lt ↦ refl | CmpOp.Leq ↦ refl | CmpOp.Gt ↦ refl | CmpOp.Geq ↦ refl ]
 
-narrow-run : (c : Command) (n : List ℕ) (marked : Bool) → narrow (run c n marked) ≡ narrowStep true c n
-narrow-run c n true = narrow-append (ownTokens c n) (converted true) ∙ and-end (narrow (ownTokens c n)) ∙ own-narrow c n
-narrow-run c n false = rw (append-nil (ownTokens c n)) (own-narrow c n)
+narrow-tokens : (c : Command) (n : List ℕ) (marked : Bool) → narrow (tokensOf c n marked) ≡ narrowStep true c n
+narrow-tokens c n true = narrow-append (ownTokens c n) (converted true) ∙ and-end (narrow (ownTokens c n)) ∙ own-narrow c n
+narrow-tokens c n false = rw (append-nil (ownTokens c n)) (own-narrow c n)
 
 pub narrow-emitted : (c : List ℕ) (marks : List Bool) → narrow (emitted c marks) ≡ narrowCode c
 unfolding emitted narrowCode
 narrow-emitted c marks =
     fold-map emitStep narrowStep (λ s. narrow (s .tokens))
-    (λ s d n. narrow-append (s .tokens) (run d n (getD (s .marks) 0 false)) ∙ rw (narrow-run d n (getD (s .marks) 0 false)) (narrow-from (narrow (s .tokens)) d n))
+    (λ s d n. narrow-append (s .tokens) (tokensOf d n (getD (s .marks) 0 false)) ∙ rw (narrow-tokens d n (getD (s .marks) 0 false)) (narrow-from (narrow (s .tokens)) d n))
     (instructions c) (record { marks = marks; tokens = [] })

@@ -30,31 +30,31 @@ loop-holds c =
     let s = c .before .before .before .before .before in
     (omega arith, s .pre .1 .1 .0 .0, refl, emitting-start (records s) (s .args .start) (s .args .code .now) (s .args .bytes) (s .pre .1 .1 .0 .1))
 
-last-piece-requires : tie.Need-last-piece-requires Inv-loop μ-loop
-last-piece-requires c κs =
+last-command-requires : tie.Need-last-command-requires Inv-loop μ-loop
+last-command-requires c κs =
     let a = c .before in
     let s = start₁ a in
     (fitting-fewer _ _ _ (rows-fit (records s) _ _ (s .pre .1 .1 .1 .0) (s .pre .1 .1 .1 .1)) (a .loop .inv .0), a .loop .inv .0, omega (arith, c .loop-test .taken))
 
 -- the piece that is met is a piece of these records
-met-is : (c : tie.After-last-piece Inv-loop μ-loop) → let a = c .before .before in Met (records (start₁ a)) (a .loop .end) (c .last-piece .result)
+met-is : (c : tie.After-last-command Inv-loop μ-loop) → let a = c .before .before in Met (records (start₁ a)) (a .loop .end) (c .last-command .result)
 met-is c =
     let a = c .before .before in
     let s = start₁ a in
-    c .last-piece .ensures .met (s .args .numbers .now) (s .args .places .now) (s .args .keys .now) (rows-fewer _ _ _ _ (s .pre .1 .1 .1 .1) (a .loop .inv .0))
+    c .last-command .ensures .met (s .args .numbers .now) (s .args .places .now) (s .args .keys .now) (rows-fewer _ _ _ _ (s .pre .1 .1 .1 .1) (a .loop .inv .0))
 
-enough : (c : tie.After-last-piece Inv-loop μ-loop) → let a = c .before .before in sizeOf (c .last-piece .result .command) ≤ a .loop .at
+enough : (c : tie.After-last-command Inv-loop μ-loop) → let a = c .before .before in sizeOf (c .last-command .result .command) ≤ a .loop .at
 enough c =
     let a = c .before .before in
     room (records (start₁ a)) (start₁ a .args .start) (start₁ a .args .code .now) (a .loop .end) (a .loop .at) (a .loop .code) (a .loop .inv .3) (a .loop .inv .0) (start₁ a .pre .1 .0)
-    (c .before .loop-test .taken) (c .last-piece .result) (met-is c)
+    (c .before .loop-test .taken) (c .last-command .result) (met-is c)
 
-put-piece-requires : tie.Need-put-piece-requires Inv-loop μ-loop
-put-piece-requires c κs =
+put-command-requires : tie.Need-put-command-requires Inv-loop μ-loop
+put-command-requires c κs =
     let m = c .before in
     let a = m .before .before in
     let s = start₁ a in (
-      met-placed (records s) (a .loop .end) (m .last-piece .result) (met-is m) (a .loop .inv .0) (s .pre .1 .0) (s .pre .0 .paired),
+      met-placed (records s) (a .loop .end) (m .last-command .result) (met-is m) (a .loop .inv .0) (s .pre .1 .0) (s .pre .0 .paired),
       (enough m, omega (arith, a .loop .inv)),
     )
 
@@ -66,13 +66,13 @@ loop-again c =
     let m = c .before .before .before .before .before in
     let a = m .before .before in
     let s = start₁ a in
-    let after = c .before .before .before .put-piece .last .1 .1 .1 .1 .0 in (
+    let after = c .before .before .before .put-command .last .1 .1 .1 .1 .0 in (
       omega (arith, met-is m .falls, a .loop .inv),
       omega (arith, a .loop .inv),
-      c .before .before .before .put-piece .kept .1 .1 .1 .1 .0 ∙ a .loop .inv .2,
-      subst⁻¹ (λ (n : ℕ). Emitting (records s) (s .args .start) (s .args .code .now) (m .last-piece .result .first) (a .loop .at - n) after) (c .size .ensures)
+      c .before .before .before .put-command .kept .1 .1 .1 .1 .0 ∙ a .loop .inv .2,
+      subst⁻¹ (λ (n : ℕ). Emitting (records s) (s .args .start) (s .args .code .now) (m .last-command .result .first) (a .loop .at - n) after) (c .size .ensures)
           (emitting-next (records s) (s .args .start) (s .args .code .now) (a .loop .end) (a .loop .at) (a .loop .code) (a .loop .inv .3) (a .loop .inv .0) (s .pre .1 .0)
-          (m .before .loop-test .taken) (m .last-piece .result) (met-is m) (a .loop .inv .1) after (c .before .before .before .put-piece .ensures)),
+          (m .before .loop-test .taken) (m .last-command .result) (met-is m) (a .loop .inv .1) after (c .before .before .before .put-command .ensures)),
     )
 
 returns : tie.Need-returns Inv-loop μ-loop
@@ -88,8 +88,8 @@ emit-spec =
     Inv-loop
     μ-loop
     loop-holds
-    last-piece-requires
-    put-piece-requires
+    last-command-requires
+    put-command-requires
     (λ c κs. search needs)
     sub-at
     (λ c. met-is (c .before .before .before .before .before) .falls)

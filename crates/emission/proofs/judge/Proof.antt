@@ -34,15 +34,15 @@ loop-holds c =
     let s = c .before in
     (omega arith, omega arith, λ numbers places keys noted whole. judging-start (recordsOf (s .args .kinds .now) numbers places keys) (s .args .start))
 
-last-piece-requires : tie.Need-last-piece-requires Inv-loop μ-loop
-last-piece-requires c κs =
+last-command-requires : tie.Need-last-command-requires Inv-loop μ-loop
+last-command-requires c κs =
     let a = c .before in
     (fitting-fewer _ _ _ (start₁ a .pre) (a .loop .inv .0), a .loop .inv .0, omega (arith, c .loop-test .taken))
 
 loop-again : tie.Need-loop-again Inv-loop μ-loop
 loop-again c =
     let a = c .before .before .before .before in
-    let m = c .before .before .last-piece in
+    let m = c .before .before .last-command in
     let low = m .ensures .falls in
     let few = size-most (m .result .command) in
     let grown : a .loop .bytes + c .size .result + 41 * m .result .first ≤ 41 * length (start₁ a .args .kinds .now) = omega (arith, c .size .ensures) in (
@@ -56,7 +56,7 @@ loop-again c =
 add-bytes : tie.Need-add-bytes Inv-loop μ-loop
 add-bytes c =
     let a = c .before .before .before .before in
-    let few = size-most (c .before .before .last-piece .result .command) in
+    let few = size-most (c .before .before .last-command .result .command) in
     omega (arith, c .size .ensures, start₁ a .pre .few, a .loop .inv)
 
 returns : tie.Need-returns Inv-loop μ-loop
@@ -81,11 +81,11 @@ judge-spec =
     Inv-loop
     μ-loop
     loop-holds
-    last-piece-requires
+    last-command-requires
     (λ c κs. search needs)
     (λ c κs. search needs)
     add-bytes
-    (λ c. c .before .before .last-piece .ensures .falls)
+    (λ c. c .before .before .last-command .ensures .falls)
     loop-again
     returns
     returns-2

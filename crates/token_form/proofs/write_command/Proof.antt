@@ -7,10 +7,10 @@ use native.Mathlib.Omega.{arith}
 use lib.ListN.{length}
 use Rattle.semantics.specs.Operations.{Token}
 use Rattle.semantics.specs.Parse.{operandBytes}
-use Rattle.token_table.specs.Runs.{run}
+use Rattle.token_table.specs.TokenRows.{tokensOf}
 use Rattle.token_form.specs.Storing.{keysOf}
 use Rattle.token_form.specs.Fields.{payload}
-use Rattle.token_form.proofs.Rows.{run-keys, run-short}
+use Rattle.token_form.proofs.Rows.{tokens-keys, row-short}
 use Rattle.token_form.proofs.Storing.{row-asks, row-leaves, records-are}
 use Rattle.token_form.proofs.write_command.Statement.{statement}
 use Rattle.token_form.proofs.write_command.Tie as tie
@@ -21,10 +21,10 @@ module _ (s : tie.Start) where
   operands = operandBytes (s .args .command) (s .args .code .now) (s .args .at)
 
   abbrev tokens : List Token
-  tokens = run (s .args .command) operands (s .args .marked)
+  tokens = tokensOf (s .args .command) operands (s .args .marked)
 
   key-is : keysOf tokens ≡ payload (s .args .command) operands .key
-  key-is = run-keys (s .args .command) (s .pre .0 .0) operands (s .args .marked)
+  key-is = tokens-keys (s .args .command) (s .pre .0 .0) operands (s .args .marked)
 
 abbrev begin : tie.After-count-of → tie.Start
 begin a = a .before .before .before .before .before .before .before .before
@@ -33,7 +33,7 @@ begin a = a .before .before .before .before .before .before .before .before
 counted : (a : tie.After-count-of) → a .count-of .result ≡ length (tokens (begin a))
 counted a =
     let s = begin a in
-    records-are (s .args .command) (s .pre .0 .0) (operands s) (s .args .marked) _ (a .before .before .run-of .ensures) _ (a .count-of .ensures)
+    records-are (s .args .command) (s .pre .0 .0) (operands s) (s .args .marked) _ (a .before .before .token-row .ensures) _ (a .count-of .ensures)
 
 returns : tie.Need-returns
 returns c =
@@ -42,7 +42,7 @@ returns c =
     let row = c .before .before .before .before .before .before .before .before .before .before .write-row .ensures in
     let key = c .before .before .write-key .ensures in (
       (counted told, rw (key-is s) (key .0)),
-      row-leaves (s .args .command) (s .pre .0 .0) (operands s) (s .args .marked) _ (told .before .before .run-of .ensures) _ (told .count-of .ensures) _ _ (s .args .place) _ _
+      row-leaves (s .args .command) (s .pre .0 .0) (operands s) (s .args .marked) _ (told .before .before .token-row .ensures) _ (told .count-of .ensures) _ _ (s .args .place) _ _
           (c .before .before .before .before .before .before .before .before .before .before .before .before .before .before .before .numbers-of .ensures) (row .0) (row .1 .0) (row .1 .1) (key .1),
     )
 
@@ -51,14 +51,14 @@ write-command-spec =
     tie.close
     (tie.spec
     (λ c κs. search needs)
-    (λ c κs. rw (c .before .run-of .ensures) (run-short (c .before .before .before .before .before .before .before .args .command) (c .before .before .before .before .before .before .before .pre .0 .0) []))
+    (λ c κs. rw (c .before .token-row .ensures) (row-short (c .before .before .before .before .before .before .before .args .command) (c .before .before .before .before .before .before .before .pre .0 .0) []))
     (λ c κs. c .before .before .before .before .before .before .before .before .pre .0 .1)
     (λ c. search needs)
     (λ c. omega (arith, c .before .before .before .before .before .before .before .before .before .before .pre .0 .2))
     (λ c κs.
     let s = c .before .before .before .before .before .before .before .before .before .before .before .before .before in
     let told = c .before .before .before .before .before in
-    row-asks (s .args .command) (s .pre .0 .0) (operands s) (s .args .marked) (told .before .before .run-of .result) (told .before .before .run-of .ensures) (told .count-of .result) (told .count-of .ensures) _
+    row-asks (s .args .command) (s .pre .0 .0) (operands s) (s .args .marked) (told .before .before .token-row .result) (told .before .before .token-row .ensures) (told .count-of .result) (told .count-of .ensures) _
     (s .pre .1))
     (λ c κs. let s = c .before .before .before .before .before .before .before .before .before .before .before .before .before .before .before .before .before .before .before .before .before in (s .pre .0 .1, rw (key-is s) at (s .pre .1 .keys)))
     (λ c. search needs)

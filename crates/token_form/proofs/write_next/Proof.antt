@@ -13,7 +13,7 @@ use Rattle.semantics.specs.declared.Command.{Command}
 use Rattle.semantics.specs.Code.{commandOf, commandRow}
 use Rattle.semantics.specs.Operations.{Token, op}
 use Rattle.semantics.specs.Parse.{operandBytes}
-use Rattle.token_table.specs.Runs.{ownTokens}
+use Rattle.token_table.specs.TokenRows.{ownTokens}
 use Rattle.token_form.proofs.Singles.{one-asks, one-counts, one-leaves, token}
 use Rattle.token_form.proofs.write_next.Statement.{statement}
 use Rattle.token_form.proofs.write_next.Tie as tie

@@ -13,11 +13,11 @@ use Rattle.token_cases.proofs.decode.agrees.Statement.{statement}
 use Rattle.token_cases.proofs.decode.agrees.Tie as tie
 
 -- what the call leaves is as long as the buffer that it was lent
-same-length : (c : tie.After-called)
-    → length (c .called .last .1 .0 ++ drop (c .before .before .before .word .result) (c .before .before .before .before .before .filled .result)) ≡ 9300
+same-length : (c : tie.After-call)
+    → length (c .call .last .1 .0 ++ drop (c .before .before .before .word .result) (c .before .before .before .before .before .filled .result)) ≡ 9300
 same-length c =
     let f = c .before .before .before .before .before in
-    full-after 9300 fill (c .before .before .before .word .result) (f .filled .result) (c .called .last .1 .0) (f .filled .ensures) (c .called .kept .1 .0)
+    full-after 9300 fill (c .before .before .before .word .result) (f .filled .result) (c .call .last .1 .0) (f .filled .ensures) (c .call .kept .1 .0)
 
 returns : tie.Need-returns
 returns c =
@@ -33,7 +33,7 @@ returns-2 c =
     let f = p .before in
     let h : w .word .result ≤ 9300 = omega arith in
     let e = decode-compared (f .before .before .args .body .now) (p .part .result .now) (w .word .result) (p .part .ensures) (w .word .ensures)
-    (f .filled .result) _ (d .called .result) (f .filled .ensures) h (d .called .ensures .0) (d .called .ensures .1) in
+    (f .filled .result) _ (d .call .result) (f .filled .ensures) h (d .call .ensures .0) (d .call .ensures .1) in
     rw (c .knows .ensures, c .before .part2 .ensures) (sym e)
 
 pub agrees-spec : {M : Type 1} → statement M

@@ -13,12 +13,12 @@ returns c e =
     let d = c .before .before .before .before .before .before .before .before .before in
     let b = d .before .before .before .before .before .before .before .before in
     let body = b .before .before .args .body .now in
-    let l = d .called .last .1 in
+    let l = d .call .last .1 in
     let k = d .before .before .before .before .before in
     let p = k .before in
     agreed body freshRecords (recordsOf (l .0) (l .1 .0) (l .1 .1 .0) (l .1 .1 .1 .0)) _
     (all-of (λ x. x < 256) body 0 (λ i. b .before .shared-slice-known .given i .fits))
-    (rw (b .filled .ensures, p .before .filled-words .ensures, p .filled-places .ensures, k .filled-keys .ensures) at (d .called .ensures))
+    (rw (b .filled .ensures, p .before .filled-words .ensures, p .filled-places .ensures, k .filled-keys .ensures) at (d .call .ensures))
     (c .all-known .ensures e)
 
 pub agrees-spec : {M : Type 1} → statement M

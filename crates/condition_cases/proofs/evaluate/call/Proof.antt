@@ -1,8 +1,8 @@
 -- The call is lent what the case has (`evaluate-lent`); a name's number is that of the part.
 use borrow.Author.Needs.{needs}
 use Rattle.condition_cases.proofs.Evaluating.{evaluate-lent}
-use Rattle.condition_cases.proofs.evaluate.called.Statement.{statement}
-use Rattle.condition_cases.proofs.evaluate.called.Tie as tie
+use Rattle.condition_cases.proofs.evaluate.call.Statement.{statement}
+use Rattle.condition_cases.proofs.evaluate.call.Tie as tie
 
 returns : tie.Need-returns
 returns c =
@@ -26,8 +26,8 @@ returns c =
     (rw (p₁₁ .part6 .ensures) at (at .word .ensures)) (p₉ .part7 .ensures) (p₁₀ .halves .ensures) in
     (rw e at (call .covenant-evaluate .ensures .0), rw e at (call .covenant-evaluate .ensures .1))
 
-pub called-spec : {M : Type 1} → statement M
-called-spec =
+pub call-spec : {M : Type 1} → statement M
+call-spec =
     tie.close
     (tie.spec
     (λ c. search needs)

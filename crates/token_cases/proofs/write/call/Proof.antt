@@ -4,8 +4,8 @@ use mathlib.Core.Path.{sym}
 use native.Mathlib.Omega.{arith}
 use lib.Seq.{length-take-le}
 use Rattle.token_cases.proofs.Fronts.{leaves}
-use Rattle.token_cases.proofs.write.called.Statement.{statement}
-use Rattle.token_cases.proofs.write.called.Tie as tie
+use Rattle.token_cases.proofs.write.call.Statement.{statement}
+use Rattle.token_cases.proofs.write.call.Tie as tie
 
 returns : tie.Need-returns
 returns c =
@@ -25,8 +25,8 @@ returns c =
     _ _ _ _ _ (k .0) (k .1 .0) (k .1 .1 .0) (k .1 .1 .1 .0)
     (w .covenant-write .ensures .0) (w .covenant-write .ensures .1)
 
-pub called-spec : {M : Type 1} → statement M
-called-spec =
+pub call-spec : {M : Type 1} → statement M
+call-spec =
     tie.close
     (tie.spec
     (λ c κs. search needs)

@@ -1,8 +1,8 @@
 -- The call is lent what the case has (`decode-lent`).
 use borrow.Author.Needs.{needs}
 use Rattle.token_cases.proofs.Decoding.{decode-lent}
-use Rattle.token_cases.proofs.decode.called.Statement.{statement}
-use Rattle.token_cases.proofs.decode.called.Tie as tie
+use Rattle.token_cases.proofs.decode.call.Statement.{statement}
+use Rattle.token_cases.proofs.decode.call.Tie as tie
 
 returns : tie.Need-returns
 returns c =
@@ -14,8 +14,8 @@ returns c =
     let e = decode-lent body _ _ _ _ (kinds .part .ensures) (p .before .before .words .ensures) (p .halves .ensures) (keys .part2 .ensures) in
     (rw e at (d .covenant-decode .ensures .0), rw e at (d .covenant-decode .ensures .1 .0))
 
-pub called-spec : {M : Type 1} → statement M
-called-spec =
+pub call-spec : {M : Type 1} → statement M
+call-spec =
     tie.close
     (tie.spec
     (λ c. search needs)

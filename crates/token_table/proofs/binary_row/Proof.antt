@@ -1,10 +1,10 @@
 -- The operation is the one that its arm knows, and its row is computed.
 use borrow.Author.Needs.{needs}
-use Rattle.token_table.proofs.binary_run.Statement.{statement}
-use Rattle.token_table.proofs.binary_run.Tie as tie
+use Rattle.token_table.proofs.binary_row.Statement.{statement}
+use Rattle.token_table.proofs.binary_row.Tie as tie
 
-pub binary-run-spec : {M : Type 1} → statement M
-binary-run-spec =
+pub binary-row-spec : {M : Type 1} → statement M
+binary-row-spec =
     tie.close
     (tie.spec
     (λ c. search needs)

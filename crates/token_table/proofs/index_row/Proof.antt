@@ -1,10 +1,10 @@
 -- The operation is the one that its arm knows, and its row is computed.
 use borrow.Author.Needs.{needs}
-use Rattle.token_table.proofs.index_run.Statement.{statement}
-use Rattle.token_table.proofs.index_run.Tie as tie
+use Rattle.token_table.proofs.index_row.Statement.{statement}
+use Rattle.token_table.proofs.index_row.Tie as tie
 
-pub index-run-spec : {M : Type 1} → statement M
-index-run-spec =
+pub index-row-spec : {M : Type 1} → statement M
+index-row-spec =
     tie.close
     (tie.spec
     (λ c. search needs)

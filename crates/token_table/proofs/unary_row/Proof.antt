@@ -1,10 +1,10 @@
 -- The operation is the one that its arm knows, and its row is computed.
 use borrow.Author.Needs.{needs}
-use Rattle.token_table.proofs.unary_run.Statement.{statement}
-use Rattle.token_table.proofs.unary_run.Tie as tie
+use Rattle.token_table.proofs.unary_row.Statement.{statement}
+use Rattle.token_table.proofs.unary_row.Tie as tie
 
-pub unary-run-spec : {M : Type 1} → statement M
-unary-run-spec =
+pub unary-row-spec : {M : Type 1} → statement M
+unary-row-spec =
     tie.close
     (tie.spec
     (λ c. search needs)

@@ -10,8 +10,8 @@ use Rattle.productions.specs.Noted.{Rows}
 use Rattle.productions.proofs.Places.{At}
 use Rattle.productions.proofs.Noted.{noted-at, own-tokens}
 use Rattle.emission.proofs.Mets.{met-none, met-row, met-twin, twin-some}
-use Rattle.emission.proofs.last_piece.Statement.{statement}
-use Rattle.emission.proofs.last_piece.Tie as tie
+use Rattle.emission.proofs.last_command.Statement.{statement}
+use Rattle.emission.proofs.last_command.Tie as tie
 
 abbrev records : tie.Start → List ℕ → List ℕ → List ℕ → Records
 records s numbers places keys = recordsOf (s .args .kinds .now) numbers places keys
@@ -62,8 +62,8 @@ returns-3 c =
           (⊎-elim (λ x e f. x .2 .left (x .1 .ensures numbers places keys ∙ f)) (λ x e f. x .left e) (c .before .if2 .came)) _ (c .command .ensures);
     }
 
-pub last-piece-spec : {M : Type 1} → statement M
-last-piece-spec =
+pub last-command-spec : {M : Type 1} → statement M
+last-command-spec =
     tie.close
     (tie.spec
     (λ c κs. search needs)

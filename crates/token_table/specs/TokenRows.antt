@@ -8,7 +8,7 @@ use Rattle.semantics.specs.declared.AmountList.{AmountList}
 use Rattle.semantics.specs.declared.Command.{Command}
 use Rattle.semantics.specs.Operations.{Token, binRow, bytes8, cmpRow, idxRow, listRow, num, op, unRow}
 use Rattle.semantics.specs.Token.{oracleForm}
-use Rattle.token_table.specs.declared.Run.{Run}
+use Rattle.token_table.specs.declared.TokenRow.{TokenRow}
 
 -- a command's own tokens, with its operand bytes
 abbrev pub ownTokens : Command → List ℕ → List Token
@@ -29,12 +29,12 @@ ownTokens (Command.Compare o) n = cmpRow o .form
 abbrev pub converted : Bool → List Token
 converted marked = cond marked (op 7 ∷ []) []
 
-abbrev pub run : Command → List ℕ → Bool → List Token
-run c n marked = ownTokens c n ++ converted marked
+abbrev pub tokensOf : Command → List ℕ → Bool → List Token
+tokensOf c n marked = ownTokens c n ++ converted marked
 
 -- a row of the table: the number of a command's own tokens, and their kinds with that of SCRIPTNUMTOLE64 after them
 abbrev zeros : List ℕ
 zeros = 0 ∷ 0 ∷ 0 ∷ 0 ∷ 0 ∷ 0 ∷ 0 ∷ 0 ∷ 0 ∷ 0 ∷ 0 ∷ 0 ∷ 0 ∷ []
 
-abbrev pub runOf : Command → Run
-runOf c = record { count = length (ownTokens c []); kinds = take 14 (map (λ t. t .kind) (run c [] true) ++ zeros) }
+abbrev pub tokenRow : Command → TokenRow
+tokenRow c = record { count = length (ownTokens c []); kinds = take 14 (map (λ t. t .kind) (tokensOf c [] true) ++ zeros) }

@@ -1,0 +1,32 @@
+#!/bin/sh
+# memcheck.sh: the boundary tests, and every case of the vectors, through the archive under valgrind. The proofs end at the language's abstract machine; this looks at what the
+# compiler made of it. In the cases each slice that is lent is an allocation of its own with nothing beside it, so that a read or write beyond it is an error. Needs gcc and valgrind.
+set -eu
+here=$(cd "$(dirname "$0")" && pwd)
+root=$(cd "$here/.." && pwd)
+lib=$root/target/staticlib/libcovenant.a
+out=$root/target/memcheck
+cases=$root/crates/vectors/data/cases
+mkdir -p "$out"
+for tool in gcc valgrind; do
+    command -v $tool >/dev/null || { echo "memcheck: $tool is not on the PATH" >&2; exit 1; }
+done
+gcc -O2 -g -Wall -Wextra -Werror -I"$root/include" "$here/boundary/calls.c" "$lib" -o "$out/calls"
+gcc -O2 -g -Wall -Wextra -Werror -I"$root/include" "$here/vectors/replay.c" "$lib" -o "$out/replay"
+# memcheck NAME PROGRAM WORD..: shows valgrind's last line, and fails where it saw an error
+memcheck() {
+    name=$1
+    shift
+    status=0
+    valgrind --error-exitcode=99 --leak-check=full --log-file="$out/$name.log" "$@" >"$out/$name.out" || status=$?
+    echo "$name: $(sed -n 's/^==[0-9]*== *\(ERROR SUMMARY.*\)/\1/p' "$out/$name.log")"
+    return $status
+}
+memcheck boundary "$out/calls"
+memcheck cases "$out/replay" "$cases" alone
+cat "$out/cases.out"
+# a slice that lacks its last byte must be seen, or the lines above say nothing
+status=0
+memcheck short "$out/replay" "$cases" short || status=$?
+test "$status" = 99 || { echo "memcheck: slices that lack a byte were not seen" >&2; exit 1; }
+echo "memcheck: 0 errors, and slices that lack their last byte are seen"
