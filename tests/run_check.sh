@@ -20,7 +20,6 @@ step bin/make archive
 step tests/boundary/run.sh boundary
 step tests/vectors/generate.py generate
 sed -i 's/^echo/cp crates\/vectors\/data\/cases "$1"; echo/' "$work/tests/vectors/generate.py"
-# only what run.sh itself prints is looked at, and what its steps print after it
 tried() { (cd "$work" && FAILS=$1 PATH="$work/bin:$PATH" tests/run.sh) >"$work/out" 2>&1; }
 tried nothing || { echo "run_check: a gate whose steps all pass fails" >&2; exit 1; }
 test "$(tail -n 1 "$work/out")" = "7 passed, 0 failed"

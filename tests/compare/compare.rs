@@ -42,6 +42,29 @@ fn number(call: &str, answer: &str) -> String {
     }
 }
 
+/// The far parts of the domain that a case is in.
+fn far(f: &[&str]) -> Vec<&'static str> {
+    let mut parts = vec![];
+    if f[0] == "D" {
+        if published::records(f[1]).iter().any(|r| r.0 == 1 && u32::from_le_bytes(r.1[..].try_into().unwrap()) > 300) {
+            parts.push("a Num above 300");
+        }
+        return parts;
+    }
+    let code = published::unhex(f[1]);
+    let all = common::instructions(&code);
+    if all.iter().any(|(c, n)| *c == 1 && common::le64(n) > 0x7fff_ffff) {
+        parts.push("an index constant above 2^31 - 1");
+    }
+    if all.iter().any(|(c, n)| matches!(c, 32 | 33) && common::le64(&n[32..]) >= 1 << 63) {
+        parts.push("a terminal's time of 2^63 or more");
+    }
+    if f[0] == "E" && f[2].parse::<u64>().expect("index") > 5 {
+        parts.push("a current index far beyond the inputs");
+    }
+    parts
+}
+
 fn run() -> i32 {
     let args: Vec<String> = std::env::args().skip(1).collect();
     let sample = args[0] == "sample";
@@ -49,6 +72,7 @@ fn run() -> i32 {
     let (seed, count) = (args[at].parse().expect("seed"), args[at + 1].parse().expect("count"));
     published::print_no_trap_of_eval();
     let mut tally: BTreeMap<(String, String), u64> = BTreeMap::new();
+    let mut parts: BTreeMap<(String, &str), u64> = BTreeMap::new();
     let mut differs: Option<String> = None;
     gen::cases(seed, count, |case| {
         let f: Vec<&str> = case.split(' ').collect();
@@ -61,12 +85,18 @@ fn run() -> i32 {
             resume_unwind(e)
         });
         *tally.entry((f[0].into(), number(f[0], &wanted))).or_default() += 1;
+        for part in far(&f) {
+            *parts.entry((f[0].into(), part)).or_default() += 1;
+        }
         if wanted != given && differs.as_ref().map_or(true, |d| case.len() < d.len()) {
             differs = Some(format!("{case}\n  wanted {wanted}\n  ours   {given}"));
         }
     });
     for ((call, number), n) in &tally {
         println!("{call} {number:8} {n:8}");
+    }
+    for ((call, part), n) in &parts {
+        println!("{call} with {part}: {n}");
     }
     if let Some(d) = &differs {
         println!("differs: {d}");

@@ -5,6 +5,9 @@ use elements_miniscript::miniscript::lex::lex;
 
 const KEYS: [u8; 4] = [2, 3, 4, 6];
 
+/// Index constants up to here have a form that `lex` reads back.
+const NARROW: u64 = 0x7fff_ffff;
+
 struct Random(u64);
 impl Random {
     fn next(&mut self) -> u64 {
@@ -22,6 +25,18 @@ impl Random {
     fn bytes(&mut self, n: usize) -> Vec<u8> {
         (0..n).map(|_| self.next() as u8).collect()
     }
+    /// Any number from `least` on, its edges often.
+    fn wide(&mut self, least: u64) -> u64 {
+        match self.below(3) {
+            0 => self.next().max(least),
+            1 => (self.next() >> self.below(33)).max(least),
+            _ => self.of(&[1 << 31, (1 << 32) - 1, 1 << 32, (1 << 63) - 1, 1 << 63, u64::MAX - 1, u64::MAX]).max(least),
+        }
+    }
+    /// A time: small, so that two times are often equal or one apart, now and then any.
+    fn time(&mut self, small: usize) -> u64 {
+        if self.below(6) > 0 { self.below(small) as u64 } else { self.wide(0) }
+    }
     fn value(&mut self) -> i64 {
         match self.below(3) {
             0 => self.of(&[0, 1, -1, 2, -2, 7, -7, i64::MAX, i64::MIN, i64::MIN + 1, i64::MAX - 1]),
@@ -37,30 +52,35 @@ fn key(r: &mut Random) -> Vec<u8> {
     (0..32).map(|i| first + 7 * i).collect()
 }
 
-/// Times are small.
 fn oracle(r: &mut Random, c: u8, out: &mut Vec<u8>) {
     out.push(c);
     out.extend(key(r));
-    out.extend((r.below(8) as u64).to_le_bytes());
+    out.extend(r.time(8).to_le_bytes());
 }
 
-fn index(r: &mut Random, size: usize, out: &mut Vec<u8>) {
+/// Its constants have a form unless `wide` holds.
+fn index(r: &mut Random, size: usize, wide: bool, out: &mut Vec<u8>) {
     if size < 2 {
         if r.below(3) == 0 {
             return out.push(2);
         }
         out.push(1);
-        let n = if r.below(8) > 0 { r.below(4) as u64 } else { r.of(&[16, 17, 127, 128, 255, 256, 32767, 32768, 0x7fffffff]) };
+        let n = match r.below(16) {
+            0 => r.of(&[16, 17, 127, 128, 255, 256, 32767, 32768, NARROW]),
+            1 if wide => r.wide(NARROW + 1),
+            1 => r.next() % (NARROW + 1),
+            _ => r.below(4) as u64,
+        };
         return out.extend(n.to_le_bytes());
     }
     let left = r.below(size);
-    index(r, left, out);
-    index(r, size - 1 - left, out);
+    index(r, left, wide, out);
+    index(r, size - 1 - left, wide, out);
     out.push(r.of(&[3, 3, 4, 5, 6]));
 }
 
 /// A value of about `size` operations. Its first terminal is the condition's first where `first` holds.
-fn value(r: &mut Random, size: usize, first: bool, out: &mut Vec<u8>) {
+fn value(r: &mut Random, size: usize, first: bool, wide: bool, out: &mut Vec<u8>) {
     if size < 2 {
         return match r.below(10) {
             0..=3 => {
@@ -70,7 +90,7 @@ fn value(r: &mut Random, size: usize, first: bool, out: &mut Vec<u8>) {
             4 => out.push(17),
             5..=7 => {
                 let n = r.below(4);
-                index(r, n, out);
+                index(r, n, wide, out);
                 out.push(r.of(&[18, 18, 19, 19, 20, 21]))
             }
             _ => {
@@ -81,24 +101,24 @@ fn value(r: &mut Random, size: usize, first: bool, out: &mut Vec<u8>) {
         };
     }
     if r.below(5) == 0 {
-        value(r, size - 1, first, out);
+        value(r, size - 1, first, wide, out);
         return out.push(r.of(&[30, 31]));
     }
     let left = r.below(size);
-    value(r, left, first, out);
-    value(r, size - 1 - left, false, out);
+    value(r, left, first, wide, out);
+    value(r, size - 1 - left, false, wide, out);
     out.push(r.of(&[22, 22, 23, 23, 24, 25, 26, 27, 28, 29]));
 }
 
-fn condition(r: &mut Random) -> Vec<u8> {
+fn condition(r: &mut Random, wide: bool) -> Vec<u8> {
     let mut out = vec![];
     let (left, right) = match r.below(64) {
         0 => (r.below(200), r.below(200)),
         1..=8 => (r.below(40), r.below(40)),
         _ => (r.below(6), r.below(4)),
     };
-    value(r, left, true, &mut out);
-    value(r, right, false, &mut out);
+    value(r, left, true, wide, &mut out);
+    value(r, right, false, wide, &mut out);
     out.push(48 + r.below(5) as u8);
     out
 }
@@ -121,7 +141,7 @@ fn witness(r: &mut Random, terminals: usize) -> String {
         let n = wrong(r, 64);
         all.push(r.bytes(n));
         let n = wrong(r, 8);
-        all.push((r.below(4) as u64).to_le_bytes().into_iter().cycle().take(n).collect());
+        all.push(r.time(4).to_le_bytes().into_iter().cycle().take(n).collect());
         let n = wrong(r, 8);
         let price = if r.below(10) == 0 { r.next() } else { r.below(1000) as u64 };
         all.push(price.to_le_bytes().into_iter().cycle().take(n).collect());
@@ -136,20 +156,36 @@ fn form(code: &[u8]) -> Option<Vec<Record>> {
     Some(lex(&script).ok()?.iter().map(record).collect())
 }
 
+/// A Num: small, or any of 32 bits.
+fn num(r: &mut Random) -> Record {
+    let n = if r.below(2) == 0 { r.of(&[0, 1, 1, 2, 300]) } else { r.wide(0).min(u32::MAX as u64) as u32 };
+    Record(1, n.to_le_bytes().to_vec())
+}
+
 fn any(r: &mut Random) -> Record {
     match r.below(40) {
         k @ (0 | 4..=35) => Record(k as u8, vec![]),
-        1 => Record(1, (r.of(&[0, 1, 1, 2, 300]) as u32).to_le_bytes().to_vec()),
+        1 => num(r),
         3 => Record(3, key(r)),
-        _ => Record(2, (r.below(9) as u64).to_le_bytes().to_vec()),
+        _ => Record(2, r.time(9).to_le_bytes().to_vec()),
     }
 }
 
-/// A token list: a form, with other tokens before it, and often changed a little.
+/// The places of index constants in a form: Nums that no Equal follows.
+fn index_constants(all: &[Record]) -> Vec<usize> {
+    (0..all.len()).filter(|&i| all[i].0 == 1 && all.get(i + 1).map_or(true, |next| next.0 != 14)).collect()
+}
+
+/// A token list: a form, with any index constants of 32 bits and other tokens before it, and often changed a little.
 fn tokens(r: &mut Random) -> Vec<Record> {
     let mut all: Vec<Record> = (0..r.of(&[0, 0, 1, 2, 5, 14])).map(|_| any(r)).collect();
-    let c = condition(r);
+    let c = condition(r, false);
     all.extend(form(&c).unwrap_or_default());
+    for at in index_constants(&all) {
+        if r.below(4) == 0 {
+            all[at] = num(r);
+        }
+    }
     for _ in 0..r.of(&[0, 0, 0, 1, 1, 2, 4]) {
         if all.is_empty() {
             break;
@@ -174,7 +210,8 @@ fn tokens(r: &mut Random) -> Vec<Record> {
 pub fn cases(seed: u64, count: usize, mut emit: impl FnMut(String)) {
     let mut r = Random(seed);
     for n in 0..count {
-        let c = condition(&mut r);
+        // Write's bytes are read back by `lex`
+        let c = condition(&mut r, !matches!(n % 8, 1 | 2));
         emit(match n % 8 {
             0 => format!("C {}", hex(&c)),
             1 | 2 => format!("W {}", hex(&c)),
@@ -184,7 +221,7 @@ pub fn cases(seed: u64, count: usize, mut emit: impl FnMut(String)) {
             }
             _ => {
                 let (inputs, outputs) = (r.below(5), r.below(5));
-                let at = r.below(inputs + 2);
+                let at = if r.below(16) > 0 { r.below(inputs + 2) as u64 } else { r.wide(5) };
                 let (s, o, i, k) = (amounts(&mut r, inputs), amounts(&mut r, outputs), amounts(&mut r, inputs), amounts(&mut r, inputs));
                 let w = witness(&mut r, terminals(&c));
                 format!("E {} {at} {s} {o} {i} {k} {w}", hex(&c))
