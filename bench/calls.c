@@ -1,6 +1,7 @@
 /* calls FILE: for each line of `shapes.py` the stack of each call, in bytes, and the time of the first four, in nanoseconds (the least of 40 rounds).
  * calls refused FILE: for each line of `shapes.py refused` the stack of Decode and of Decode over records, and the time of Decode.
- * calls FILE LINE CALL, calls refused FILE LINE: makes that one call (that Decode) ten times, for callgrind. */
+ * calls FILE LINE CALL, calls refused FILE LINE: makes that one call (that Decode) ten times, for callgrind.
+ * calls slots SLOTS ENDS: evaluates 5 Eq 5 eleven times, with so many slots in each of the four lists and so many empty witness elements, for callgrind. */
 #define _POSIX_C_SOURCE 199309L
 #include "covenant.h"
 #include "stack.h"
@@ -9,7 +10,7 @@
 #include <string.h>
 #include <time.h>
 
-enum { CALLS = 6, TIMED = 4, KINDS = 36, CODE = COVENANT_MAX_CODE, TOKENS = COVENANT_MAX_TOKENS, ORACLES = COVENANT_MAX_ORACLES };
+enum { CALLS = 6, TIMED = 4, KINDS = 36, SLOTS = 1024, CODE = COVENANT_MAX_CODE, TOKENS = COVENANT_MAX_TOKENS, ORACLES = COVENANT_MAX_ORACLES };
 
 /* What is lent, as large as any call asks for. */
 static uint8_t code[CODE], witness[80 * ORACLES], checks[112 * ORACLES], kinds[TOKENS], keys[32 * ORACLES], back[CODE];
@@ -141,8 +142,23 @@ static void measure_refused(const char *shape, unsigned n) {
     printf("%s %u %zu %zu %.0f\n", shape, n, most_stack(decode), most_stack(decode_records), least(decode, &answer));
 }
 
+static int evaluate_slots(size_t slots, size_t elements) {
+    static const uint8_t five[19] = {16, 5, 0, 0, 0, 0, 0, 0, 0, 16, 5, 0, 0, 0, 0, 0, 0, 0, 48};
+    static const uint64_t amounts[SLOTS];
+    static const uint8_t hidden[SLOTS];
+    static const uint32_t none[SLOTS];
+    if (slots > SLOTS || elements > SLOTS) return 1;
+    for (int i = 0; i < 11; i++) {
+        covenant_evaluated e = covenant_evaluate(five, sizeof five, amounts, slots, hidden, slots, amounts, slots, hidden, slots, amounts, slots, hidden, slots, amounts, slots, hidden, slots,
+                                                 0, witness, 0, none, elements, checks, 0);
+        if (e.number || !e.verdict || e.left != elements) return 1;
+    }
+    return 0;
+}
+
 int main(int argc, char **argv) {
     static char shape[32], hex[2 * CODE + 1];
+    if (argc == 4 && !strcmp(argv[1], "slots")) return evaluate_slots((size_t)atoi(argv[2]), (size_t)atoi(argv[3]));
     int refused = argc > 1 && !strcmp(argv[1], "refused");
     argc -= refused, argv += refused;
     unsigned n;

@@ -102,6 +102,13 @@ def both(rows):
     return {k: (rows[k][0], rows[k][2], times[n], result(a[n]), result(b[n]), m) for n, (k, m) in enumerate(zip(rows, commands()))}
 
 
+def slots():
+    """The instructions of Evaluate that one slot of a list adds, and one witness element, where the condition looks at none."""
+    taken = lambda slots, elements: instructions("covenant_evaluate", os.path.join(OUT, "calls"), "slots", str(slots), str(elements))
+    none = taken(0, 0)
+    return (taken(1000, 0) - none) / 4000, (taken(0, 1000) - none) / 1000
+
+
 def shapes(rows):
     return list(dict.fromkeys(s for s, _ in rows))
 
@@ -216,7 +223,7 @@ def above(rows):
     return out + [""]
 
 
-def speed(rows, refused):
+def speed(rows, refused, lent):
     out = ["# Speed", ""]
     out += paragraph("Measured by `make bench`, both sides in one run: the archive, and the published Rust over the stand-ins of tests/compare, compiled with -O. Instructions are those of "
                      "one call, counted by callgrind, memset and memcpy (bench/memory.c) included; a ratio is ours to the Rust's. The Rust's calls are `Arith::new`, `eval`, "
@@ -224,11 +231,11 @@ def speed(rows, refused):
                      "check them on every call.")
     out += above(rows)
     for c, name in enumerate(CALLS):
-        out += ["## " + name, "", "| condition | tokens | ours | Rust | ratio | ns ours | ns Rust |", "|---|---|---|---|---|---|---|"]
+        out += ["## " + name, "", "| condition | tokens | commands | ours | Rust | ratio | ns ours | ns Rust |", "|---|---|---|---|---|---|---|---|"]
         for s in shapes(rows):
-            for size in SIZES if s.startswith("index") else (12, 100, 1024):
-                tokens, mine, ns, a, b = rows[s, size][:5]
-                out.append("| %s | %d | %.0f | %.0f | %.2f | %d | %d |" % (s, tokens, a[c], b[c], a[c] / b[c], mine[c], ns[c]))
+            for size in SIZES:
+                tokens, mine, ns, a, b, commands = rows[s, size]
+                out.append("| %s | %d | %d | %.0f | %.0f | %.2f | %d | %d |" % (s, tokens, commands, a[c], b[c], a[c] / b[c], mine[c], ns[c]))
         out.append("")
     out += ["## The same job on both sides", ""]
     out += paragraph("From what is kept of a condition to a verdict. The Rust keeps tokens: `from_tokens`, which makes the tree and judges it by `Arith::new`, and `eval`. Ours keeps condition "
@@ -253,6 +260,10 @@ def speed(rows, refused):
             given.update({"%s (refused), %d tokens" % k: n for k, n in refused.items()})
         most = max(given, key=given.get)
         out.append("| %s | %s | %.0f | %.2f |" % (name, most, given[most], given[most] / 1e6))
+    slot, end = lent
+    out += [""] + paragraph("Evaluate also judges every slot of the four lists and every end of the witness that is lent, looked up or not: %.1f instructions a slot of one list, %.1f an "
+                            "end. At one instruction a nanosecond %d slots, or %d ends, fit into %d ms; %d slots fill the unit's memory." % (
+                                slot, end, UNIT_MS * 10**6 / slot, UNIT_MS * 10**6 / end, UNIT_MS, UNIT_BYTES // 9))
     write("SPEED.md", out)
 
 
@@ -268,6 +279,6 @@ if __name__ == "__main__":
     memory(rows, refused, [int(n) for n in run(os.path.join(OUT, "cases"), CASES).split()], readers)
     if os.environ.get("RUST_SOURCE"):
         counted = {k: instructions("covenant_decode", os.path.join(OUT, "calls"), "refused", REFUSED, str(n)) for n, k in enumerate(refused)}
-        speed(both(rows), counted)
+        speed(both(rows), counted, slots())
     else:
         print("RUST_SOURCE is not set, so the published Rust was not measured and docs/SPEED.md stays as it is")

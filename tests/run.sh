@@ -12,7 +12,15 @@ rt fmt --check
     status=0
     tests/prove.sh ci || status=$?
     echo $status >"$work/status"
-} | awk -v tally="$work/tally" '/^[0-9]+ passed, [0-9]+ failed$/ { print >tally; print "rt ci: " $0; next } { print; fflush() }'
+} | while IFS= read -r line; do
+    case $line in
+    [0-9]*' passed, '[0-9]*' failed')
+        echo "$line" >"$work/tally"
+        line="rt ci: $line"
+        ;;
+    esac
+    printf '%s\n' "$line"
+done
 test "$(cat "$work/status")" = 0
 make --no-print-directory -s archive
 tests/boundary/run.sh
