@@ -1,6 +1,6 @@
 # make run proves what the worked examples need and prints them; make test is the whole gate.
 # make compare and make bench ask the published Rust too; RUST_SOURCE names the folder of its source.
-.PHONY: run test edits compare bench vectors toolchain listed archive
+.PHONY: run test edits compare bench memcheck vectors toolchain listed archive
 
 run: toolchain
 	@tests/prove.sh check examples
@@ -25,6 +25,10 @@ compare: archive
 # writes docs/MEMORY.md and docs/SPEED.md
 bench: archive
 	bench/run.py
+
+# the boundary tests and the cases of crates/vectors through the archive, under valgrind
+memcheck: archive
+	tests/memcheck.sh
 
 # the cases that crates/vectors replays
 vectors:

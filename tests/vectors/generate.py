@@ -299,7 +299,8 @@ def decodings():
 
 NINE = const(9)
 HIDDEN = [([7], [0]), ([8], [0]), ([0], [0]), ([0], [0])]
-SIGNATURE, PRICE, EARLY, LATE = bytes(64), (9).to_bytes(8, "little"), (4).to_bytes(8, "little"), (6).to_bytes(8, "little")
+SIGNATURE, PRICE = bytes(64), (9).to_bytes(8, "little")
+EARLY, EXACT, LATE = [n.to_bytes(8, "little") for n in (4, 5, 6)]
 
 
 def told(got, wanted):
@@ -370,11 +371,12 @@ def oracle_examples():
     eight = (8).to_bytes(8, "little")
     check_bytes = lambda price: KEY + (5).to_bytes(8, "little") + price + SIGNATURE
     run = lambda *es: evaluate(at_least_nine, ONE_INPUT, 0, elements(*es), 112)
-    told(run(SIGNATURE, EARLY, PRICE), (0, 1, 0, 0, 1, 0, check_bytes(PRICE)))
-    told(run(SIGNATURE, EARLY, eight), (0, 0, 0, 0, 1, 0, check_bytes(eight)))
+    told(run(SIGNATURE, EXACT, PRICE), (0, 1, 0, 0, 1, 0, check_bytes(PRICE)))
+    told(run(SIGNATURE, EXACT, eight), (0, 0, 0, 0, 1, 0, check_bytes(eight)))
+    told(run(SIGNATURE, EARLY, PRICE), (0, 1, 0, 0, 1, 0, check_bytes(PRICE)))  # the check has the condition's time
     told(run(SIGNATURE, LATE, PRICE), (39, 0, 0, 0, 0, 0, b""))
-    told(run(PRICE, EARLY, SIGNATURE), (34, 0, 0, 0, 0, 2, b""))
-    told(run(SIGNATURE, EARLY, b""), (34, 0, 0, 0, 0, 2, b""))  # an element that is no push
+    told(run(PRICE, EXACT, SIGNATURE), (34, 0, 0, 0, 0, 2, b""))
+    told(run(SIGNATURE, EXACT, b""), (34, 0, 0, 0, 0, 2, b""))  # an element that is no push
 
 
 def decoding_examples():

@@ -17,14 +17,14 @@ def ops(*kinds):
 
 
 IDX_BETWEEN = {3: [], 4: [], 5: ops(TO_LE64), 6: ops(TO_LE64)}
-IDX_RUN = {3: ops(ADD), 4: ops(SUB), 5: ops(TO_LE64, MUL64) + CHECKED + ops(TO_NUM), 6: ops(TO_LE64, DIV64) + CHECKED + ops(NIP, TO_NUM)}
-LIST_RUN = {
+IDX_TOKENS = {3: ops(ADD), 4: ops(SUB), 5: ops(TO_LE64, MUL64) + CHECKED + ops(TO_NUM), 6: ops(TO_LE64, DIV64) + CHECKED + ops(NIP, TO_NUM)}
+LIST_TOKENS = {
     18: ops(INP_VALUE) + CHECKED,
     19: ops(OUT_VALUE) + CHECKED,
     20: ops(INP_ISSUE, DROP, DROP) + CHECKED + ops(NIP, NIP),
     21: ops(INP_ISSUE, DROP, DROP, DROP, DROP) + CHECKED,
 }
-BIN_RUN = {
+BIN_TOKENS = {
     22: ops(ADD64) + CHECKED,
     23: ops(SUB64) + CHECKED,
     24: ops(MUL64) + CHECKED,
@@ -34,8 +34,8 @@ BIN_RUN = {
     28: ops(OR),
     29: ops(XOR),
 }
-UN_RUN = {30: ops(INVERT), 31: ops(NEG64) + CHECKED}
-CMP_RUN = {48: ops(EQUAL), 49: ops(LE64), 50: ops(LEQ64), 51: ops(GE64), 52: ops(GEQ64)}
+UN_TOKENS = {30: ops(INVERT), 31: ops(NEG64) + CHECKED}
+CMP_TOKENS = {48: ops(EQUAL), 49: ops(LE64), 50: ops(LEQ64), 51: ops(GE64), 52: ops(GEQ64)}
 
 
 class Refused(Exception):
@@ -112,22 +112,22 @@ def form(t):
     if c == 2:
         return ops(CURR_INP)
     if 3 <= c <= 6:
-        return form(t[1]) + IDX_BETWEEN[c] + form(t[2]) + IDX_RUN[c]
+        return form(t[1]) + IDX_BETWEEN[c] + form(t[2]) + IDX_TOKENS[c]
     if c == 16:
         return [(BYTES8, t[1])]
     if c == 17:
-        return ops(CURR_INP) + LIST_RUN[18]
+        return ops(CURR_INP) + LIST_TOKENS[18]
     if 18 <= c <= 21:
-        return form(t[1]) + LIST_RUN[c]
+        return form(t[1]) + LIST_TOKENS[c]
     if 22 <= c <= 29:
-        return form(t[1]) + form(t[2]) + BIN_RUN[c]
+        return form(t[1]) + form(t[2]) + BIN_TOKENS[c]
     if c in (30, 31):
-        return form(t[1]) + UN_RUN[c]
+        return form(t[1]) + UN_TOKENS[c]
     if c == 32:
         return (ops(DUP2, TO_ALT) + [(BYTES8, t[2])] + ops(GEQ64, VERIFY, CAT, SHA256) + [(BYTES32, t[1])] + ops(CHECKSIG, FROM_ALT))
     if c == 33:
         return ops(TO_ALT) + form((32, t[1], t[2])) + ops(FROM_ALT, SWAP)
-    return form(t[1]) + form(t[2]) + CMP_RUN[c]
+    return form(t[1]) + form(t[2]) + CMP_TOKENS[c]
 
 
 def terminals(t):
@@ -169,7 +169,7 @@ def check(code):
         return r.answer[:2]
 
 
-class Run:
+class Evaluation:
     """Lists are [(numbers, marks)] for spent, outputs, issued and reissued; the witness is its elements, bottom first."""
 
     def __init__(self, lists, current, elements):
@@ -280,12 +280,12 @@ def evaluate(code, lists, current, witness, ends, room):
             raise Refused(7)
     except Refused as r:
         return refused(r, [], len(ends))
-    run = Run(lists, current, [witness[s:e] for s, e in zip([0] + list(ends), ends)])
+    state = Evaluation(lists, current, [witness[s:e] for s, e in zip([0] + list(ends), ends)])
     try:
-        v = run.holds(t)
+        v = state.holds(t)
     except Refused as r:
-        return refused(r, run.checks, len(run.elements))
-    return (0, int(v), 0, 0, len(run.checks), len(run.elements), b"".join(run.checks))
+        return refused(r, state.checks, len(state.elements))
+    return (0, int(v), 0, 0, len(state.checks), len(state.elements), b"".join(state.checks))
 
 
 def write(code, room, key_room):
@@ -308,8 +308,8 @@ class Reader:
     def __init__(self, tokens):
         self.tokens, self.idx, self.val = tokens, {}, {}
 
-    def before(self, end, run):
-        return end >= len(run) and self.tokens[end - len(run) : end] == run
+    def before(self, end, own):
+        return end >= len(own) and self.tokens[end - len(own) : end] == own
 
     def indexes(self, end):
         if end not in self.idx:
@@ -319,9 +319,9 @@ class Reader:
                 found.append((end - 1, (1, last[1])))
             if last == (CURR_INP,):
                 found.append((end - 1, (2,)))
-            for c, run in IDX_RUN.items():
-                if self.before(end, run):
-                    for m, y in self.indexes(end - len(run)):
+            for c, own in IDX_TOKENS.items():
+                if self.before(end, own):
+                    for m, y in self.indexes(end - len(own)):
                         if self.before(m, IDX_BETWEEN[c]):
                             found += [(s, (c, x, y)) for s, x in self.indexes(m - len(IDX_BETWEEN[c]))]
             self.idx[end] = found
@@ -339,16 +339,16 @@ class Reader:
             last = self.tokens[end - 1] if end else None
             if last and last[0] == BYTES8:
                 found.append((end - 1, (16, last[1])))
-            for c, run in LIST_RUN.items():
-                if self.before(end, run):
-                    for s, i in self.indexes(end - len(run)):
+            for c, own in LIST_TOKENS.items():
+                if self.before(end, own):
+                    for s, i in self.indexes(end - len(own)):
                         found.append((s, (17,) if c == 18 and i == (2,) else (c, i)))  # the twins: Decode returns 17
-            for c, run in UN_RUN.items():
-                if self.before(end, run):
-                    found += [(s, (c, x)) for s, x in self.values(end - len(run))]
-            for c, run in BIN_RUN.items():
-                if self.before(end, run):
-                    for m, y in self.values(end - len(run)):
+            for c, own in UN_TOKENS.items():
+                if self.before(end, own):
+                    found += [(s, (c, x)) for s, x in self.values(end - len(own))]
+            for c, own in BIN_TOKENS.items():
+                if self.before(end, own):
+                    for m, y in self.values(end - len(own)):
                         found += [(s, (c, x, y)) for s, x in self.values(m)]
             found += self.oracle(end)
             if self.before(end, ops(FROM_ALT, SWAP)):
@@ -360,9 +360,9 @@ class Reader:
 
     def conditions(self):
         end, found = len(self.tokens), []
-        for c, run in CMP_RUN.items():
-            if self.before(end, run):
-                for m, y in self.values(end - len(run)):
+        for c, own in CMP_TOKENS.items():
+            if self.before(end, own):
+                for m, y in self.values(end - len(own)):
                     found += [(s, (c, x, y)) for s, x in self.values(m)]
         return found
 
