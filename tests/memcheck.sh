@@ -1,6 +1,7 @@
 #!/bin/sh
 # memcheck.sh: the boundary tests, and every case of the vectors, through the archive under valgrind. The proofs end at the language's abstract machine; this looks at what the
-# compiler made of it. In the cases each slice that is lent is an allocation of its own with nothing beside it, so that a read or write beyond it is an error. Needs gcc and valgrind.
+# compiler made of it. In the cases each slice that is lent is an allocation of its own with nothing beside it, so that a read or write beyond it is an error. Needs gcc and valgrind, and uses
+# rustc where it is.
 set -eu
 here=$(cd "$(dirname "$0")" && pwd)
 root=$(cd "$here/.." && pwd)
@@ -23,6 +24,10 @@ memcheck() {
     return $status
 }
 memcheck boundary "$out/calls"
+if command -v rustc >/dev/null; then
+    rustc --edition 2021 -O -L "$(dirname "$lib")" -o "$out/calls_rs" "$here/boundary/calls.rs"
+    memcheck boundary-rust "$out/calls_rs"
+fi
 memcheck cases "$out/replay" "$cases" alone
 cat "$out/cases.out"
 # a slice that lacks its last byte must be seen, or the lines above say nothing

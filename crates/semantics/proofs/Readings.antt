@@ -156,6 +156,10 @@ readings =
     -- true, with one check and two elements left below; the check is key, the terminal's time, price, signature, and the buffer's rest is kept
     ∷ (answer price env (signature ++ littleEndian 8 4 ++ littleEndian 8 9) (0 ∷ 0 ∷ 64 ∷ 72 ∷ 80 ∷ []) room, 0 ∷ 1 ∷ 0 ∷ 1 ∷ 2 ∷ [])
     ∷ (on price env (signature ++ littleEndian 8 4 ++ littleEndian 8 9) (64 ∷ 72 ∷ 80 ∷ []) room .buffer, key ++ littleEndian 8 5 ++ littleEndian 8 9 ++ signature ++ 1 ∷ 1 ∷ [])
+    -- witness bytes after the last end are no element
+    ∷ (answer (eq (Expr.Const 5) (Expr.Const 5)) env (7 ∷ 7 ∷ []) (1 ∷ []) [], 0 ∷ 1 ∷ 0 ∷ 0 ∷ 1 ∷ [])
+    -- a key's bytes stay in their order, and a time's lowest byte comes first
+    ∷ (exprCode (Expr.PriceOracle1 (1 ∷ replicate 31 7) 5), 32 ∷ 1 ∷ replicate 31 7 ++ 5 ∷ 0 ∷ 0 ∷ 0 ∷ 0 ∷ 0 ∷ 0 ∷ 0 ∷ [])
     -- 8 before 12 before 7, all elements left, and no byte written
     ∷ (answer price unpaired (0 ∷ []) (3 ∷ 2 ∷ []) [], bare 8 ++ 0 ∷ 2 ∷ []) ∷ (answer price env (0 ∷ []) (3 ∷ 2 ∷ []) [], bare 12 ++ 0 ∷ 2 ∷ [])
     ∷ (answer price env [] [] (replicate 111 1), bare 7 ++ 0 ∷ 0 ∷ []) ∷ (on price env [] [] (replicate 111 1) .buffer, replicate 111 1)
