@@ -52,7 +52,7 @@ def argument(text, at):
 
 
 def met_at(crate, path, line, column, step):
-    """Whether the step is a function's promise where it returns, a loop's invariant, another need of its proof, or a law; or a walk by hand, which has no such steps."""
+    """Whether the step is a function's promise where it returns, a loop's invariant, another need of its proof, a lemma in it, or a law; or a walk by hand, which has no such steps."""
     lines = open(path).read().splitlines(keepends=True)
     text = "".join(lines)
     function = re.search(r"/proofs/(.*)/Proof.antt$", path)
@@ -66,7 +66,7 @@ def met_at(crate, path, line, column, step):
         needs = needs_in_order(crate, function[1])
         k = argument(text, len("".join(lines[: line - 1])) + column - 1)
         need = needs[k] if 0 <= k < len(needs) else "?"
-    return "law" if not need else "returns" if need.startswith("returns") else "loop" if need.startswith("loop") else "need " + need
+    return "lemma" if not need else "returns" if need.startswith("returns") else "loop" if need.startswith("loop") else "need " + need
 
 
 def first_error(log, crate, name):
