@@ -262,8 +262,8 @@ def speed(rows, refused, lent):
         out.append("| %s | %s | %.0f | %.2f |" % (name, most, given[most], given[most] / 1e6))
     slot, end = lent
     out += [""] + paragraph("Evaluate also judges every slot of the four lists and every end of the witness that is lent, looked up or not: %.1f instructions a slot of one list, %.1f an "
-                            "end. At one instruction a nanosecond %d slots, or %d ends, fit into %d ms; %d slots fill the unit's memory." % (
-                                slot, end, UNIT_MS * 10**6 / slot, UNIT_MS * 10**6 / end, UNIT_MS, UNIT_BYTES // 9))
+                            "end. At one instruction a nanosecond %.0f million slots, or %.0f million ends, fit into %d ms; %d slots of 9 bytes fill the unit's memory." % (
+                                slot, end, UNIT_MS / slot, UNIT_MS / end, UNIT_MS, UNIT_BYTES // 9))
     write("SPEED.md", out)
 
 
