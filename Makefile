@@ -28,7 +28,7 @@ bench: archive
 
 # the boundary tests and the cases of crates/vectors through the archive, under valgrind
 memcheck: archive
-	tests/memcheck.sh
+	tests/memcheck/run.sh
 
 # the cases that crates/vectors replays
 vectors:
