@@ -4,15 +4,13 @@ use mathlib.Core.Path.{_≡_, refl, sym, ap, _∙_}
 use mathlib.Core.Option.{none, some}
 use native.Mathlib.Omega.{arith}
 use lib.IntN.{ℤ, pos, negsuc, negℤ, natAbs, _+ℤ_, _*ℤ_, negℤ-negℤ}
-use lib.Signed.{mag, natAbs-le, shrZ, mag-shr}
-use native.Mathlib.Nat.{lt-of-le-of-lt}
+use lib.Signed.{mag}
 use borrow.Author.Tests.{lt-ltb, le-ltb}
 use mir.Syntax.{w64}
 use mir.Val.{SFits, toZ, ofZ}
 use mir.Facts.{toZ-ofZ, toZ-neg}
 use Rattle.num64.specs.declared.Signed64.{Signed64}
-use Rattle.num64.specs.Exact.{signOf, fitted, remainder, checkedMul, checkedDiv, checkedRem}
-use Rattle.num64.proofs.Euclid.{rest-lt}
+use Rattle.num64.specs.Exact.{signOf, checkedMul}
 use Rattle.index64.specs.Steps.{idxMul}
 use Rattle.index64.proofs.Laws.{none-is, value-is}
 
@@ -38,15 +36,6 @@ module _ {a : ℤ} (f : SFits w64 a) {x : ℤ} (e : x ≡ toZ w64 (ofZ w64 a)) w
 
   pub mag-passed : mag x < 2 ^ 63
   mag-passed = rw passed (f .sfits)
-
-  pub abs-passed : natAbs x ≤ 2 ^ 63
-  abs-passed = rw passed (natAbs-le a (f .sfits))
-
-pub passed-abs : {a : ℤ} → SFits w64 a → {n : ℕ} → n ≡ natAbs (toZ w64 (ofZ w64 a)) → n ≡ natAbs a
-passed-abs f e = e ∙ ap natAbs (toZ-ofZ f)
-
-pub abs-floor : (a : ℤ) → SFits w64 a → (d : ℕ) → natAbs (shrZ a d) ≤ 2 ^ 63
-abs-floor a f d = natAbs-le (shrZ a d) (lt-of-le-of-lt (mag-shr a d) (f .sfits))
 
 -- ---- signs
 
@@ -83,21 +72,3 @@ module _ (a b : ℤ) where
   unfolding idxMul checkedMul
   mul-overflow e =
       rw (le-ltb (mag (a *ℤ b)) (2 ^ 63) (mag-ge (a *ℤ b) (rw (abs-product a b) (none-is (natAbs a * natAbs b) e))))
-
--- ---- the remainder, where there is a quotient
-
-divides : (a b q : ℤ) → checkedDiv a b ≡ Signed64.Value q → 0 < natAbs b
-unfolding checkedDiv
-divides a (pos zero) q e = let z : _≡_ {A = ℕ} 0 1 = cc in omega arith
-divides a (pos (suc n)) q e = omega arith
-divides a (negsuc n) q e = omega arith
-
-module _ (a b q : ℤ) (e : checkedDiv a b ≡ Signed64.Value q) where
-  pub divisor : 0 < natAbs b
-  divisor = divides a b q e
-
-  pub rem-value : SFits w64 b → fitted (pos (remainder a b)) ≡ checkedRem a b
-  unfolding checkedRem
-  rem-value f =
-      let h : remainder a b < 2 ^ 63 = omega (arith, rest-lt a (natAbs b) divisor, natAbs-le b (f .sfits)) in
-      rw (e, lt-ltb (remainder a b) (2 ^ 63) h)

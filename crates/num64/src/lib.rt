@@ -1,15 +1,20 @@
 // 64-bit arithmetic: each contract is an equation with a definition of specs/ over whole numbers.
 use index64::Step;
 ghost use mathlib.Core.Path.{_≡_};
-ghost use Prim.Native.Nat.{_+_, _<_, _≤_, _^_};
-ghost use lib.IntN.{pos, negsuc, natAbs, negℤ, _+ℤ_};
-ghost use lib.Signed.{mag, shrZ};
-ghost use Rattle.num64.specs.Exact.{number, signOf, restOf};
+ghost use mathlib.Core.Bool.{false};
+ghost use Prim.Native.Nat.{_+_, _<_, _^_};
+ghost use lib.IntN.{pos, natAbs, negℤ};
+ghost use lib.Signed.{_≤ℤ_, _<ℤ_};
+ghost use Rattle.num64.specs.Exact.{number, signOf};
 ghost use Rattle.num64.specs.Exact.{checkedAdd, checkedSub, checkedMul, checkedNeg, checkedDiv, checkedRem, fitted};
 ghost use Rattle.num64.specs.Crossing.{crossed};
+ghost use Rattle.num64.specs.SignCases.{Euclidean, noQuotient};
 
 // 2^63: the bits from here on are those of negative numbers.
 const HALF: u64 = 0x8000_0000_0000_0000;
+
+// -2^63, the least signed number.
+const LEAST: i64 = -0x8000_0000_0000_0000;
 
 // A signed result, or Overflow where 64 bits hold none.
 pub enum Signed64 {
@@ -88,28 +93,6 @@ fn signed_by(b: i64, z: Whole) -> Whole
     }
 }
 
-// z by d, rounded down
-fn floor(z: Whole, d: u64) -> Whole
-    requires { ⌜ 0 < d ⌝ }
-    ensures { λ r. ⌜ number r ≡ shrZ (number z) d ⌝ }
-{
-    match z {
-        Whole::Pos(m) => Whole::Pos(m / d),
-        Whole::NegSuc(m) => Whole::NegSuc(m / d),
-    }
-}
-
-// and what is left
-fn rest(z: Whole, d: u64) -> u64
-    requires { ⌜ 0 < d ⌝ }
-    ensures { λ r. ⌜ r ≡ restOf (number z) d ⌝ }
-{
-    match z {
-        Whole::Pos(m) => m % d,
-        Whole::NegSuc(m) => d - 1 - m % d,
-    }
-}
-
 // ---- sums and differences of bits
 
 // Whether t is on the other side of 2^63 than both m and n.
@@ -160,21 +143,112 @@ pub fn checked_mul(a: i64, b: i64) -> Signed64
     }
 }
 
+// ---- quotient and remainder, by the signs of a and b: a = b * quotient + remainder, and 0 <= remainder < |b|
+// `a / b` is rounded towards 0, and `a % b` is what that leaves: it is negative only where a is.
+
+// Where 30 and 31 fall: by 0, and -2^63 by -1, whose quotient 2^63 does not fit.
+fn has_no_quotient(a: i64, b: i64) -> bool
+    ensures { λ r. ⌜ r ≡ noQuotient a b ⌝ }
+{
+    (b == 0) | ((a == LEAST) & (b == -1))
+}
+
+struct Division {
+    quotient: i64,
+    remainder: i64,
+}
+
+// 7 by 2: 3 times, and 1 is left. 7 = 2 * 3 + 1.
+fn nonnegative_by_positive(a: i64, b: i64) -> Division
+    requires { ⌜ (pos 0 ≤ℤ a) × (pos 0 <ℤ b) ⌝ }
+    ensures { λ r. ⌜ Euclidean a b (r .quotient) (r .remainder) ⌝ }
+{
+    Division {
+        quotient: a / b, // 7 / 2 is 3
+        remainder: a % b, // 7 % 2 is 1
+    }
+}
+
+// 7 by -2: -3 times, and 1 is left. 7 = -2 * -3 + 1.
+fn nonnegative_by_negative(a: i64, b: i64) -> Division
+    requires { ⌜ (pos 0 ≤ℤ a) × (b <ℤ pos 0) ⌝ }
+    ensures { λ r. ⌜ Euclidean a b (r .quotient) (r .remainder) ⌝ }
+{
+    Division {
+        quotient: a / b, // 7 / -2 is -3
+        remainder: a % b, // 7 % -2 is 1
+    }
+}
+
+// -7 by 2: -3 times leaves -1, which is negative; once less leaves 2 more. -7 = 2 * -4 + 1.
+fn negative_by_positive(a: i64, b: i64) -> Division
+    requires { ⌜ (a <ℤ pos 0) × (pos 0 <ℤ b) ⌝ }
+    ensures { λ r. ⌜ Euclidean a b (r .quotient) (r .remainder) ⌝ }
+{
+    let times = a / b; // -7 / 2 is -3
+    let left = a % b; // -7 % 2 is -1
+    if left == 0 {
+        return Division {
+            quotient: times,
+            remainder: 0,
+        };
+    }
+    Division {
+        quotient: times - 1, // -3 - 1 is -4
+        remainder: left + b, // -1 + 2 is 1
+    }
+}
+
+// -7 by -2: 3 times leaves -1, which is negative; once more leaves 2 more. -7 = -2 * 4 + 1.
+fn negative_by_negative(a: i64, b: i64) -> Division
+    requires { ⌜ (a <ℤ pos 0) × (b <ℤ pos 0) × (noQuotient a b ≡ false) ⌝ }
+    ensures { λ r. ⌜ Euclidean a b (r .quotient) (r .remainder) ⌝ }
+{
+    let times = a / b; // -7 / -2 is 3
+    let left = a % b; // -7 % -2 is -1
+    if left == 0 {
+        return Division {
+            quotient: times,
+            remainder: 0,
+        };
+    }
+    Division {
+        quotient: times + 1, // 3 + 1 is 4
+        remainder: left - b, // -1 - -2 is 1
+    }
+}
+
+fn divide(a: i64, b: i64) -> Division
+    requires { ⌜ noQuotient a b ≡ false ⌝ }
+    ensures { λ r. ⌜ Euclidean a b (r .quotient) (r .remainder) ⌝ }
+{
+    if a < 0 {
+        if b < 0 {
+            negative_by_negative(a, b)
+        } else {
+            negative_by_positive(a, b)
+        }
+    } else if b < 0 {
+        nonnegative_by_negative(a, b)
+    } else {
+        nonnegative_by_positive(a, b)
+    }
+}
+
 pub fn checked_div_euclid(a: i64, b: i64) -> Signed64
     ensures { λ r. ⌜ r ≡ checkedDiv a b ⌝ }
 {
-    let d = absolute(b);
-    if d == 0 {
+    if has_no_quotient(a, b) {
         return Signed64::Overflow;
     }
-    fit(signed_by(b, floor(split(a), d)))
+    Signed64::Value(divide(a, b).quotient)
 }
 
 pub fn checked_rem_euclid(a: i64, b: i64) -> Signed64
     ensures { λ r. ⌜ r ≡ checkedRem a b ⌝ }
 {
-    match checked_div_euclid(a, b) {
-        Signed64::Value(_) => fit(Whole::Pos(rest(split(a), absolute(b)))),
-        Signed64::Overflow => Signed64::Overflow,
+    if has_no_quotient(a, b) {
+        return Signed64::Overflow;
     }
+    Signed64::Value(divide(a, b).remainder)
 }
