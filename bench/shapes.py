@@ -1,6 +1,7 @@
 #!/usr/bin/env python3
 """shapes.py: prints the conditions that are measured, a line each: shape, tokens, code in hex. Left-deep chains of add, and, index steps and oracles, and the deepest
-nestings: Invert, And and index Add nested to the right, index Add nested to the left; and Add and index Mul nested to the right, where Decode's readers go deepest.
+nestings: Invert, And and index Add nested to the right, index Add nested to the left; and Add and index Mul nested to the right, where Decode's readers go deepest. Last
+a left-deep chain of and over quotients, and one over remainders, of the four pairs of signs in turn.
 shapes.py refused: prints token lists that Decode refuses with 11, a line each: shape, tokens, kinds in hex; every Num is 1. An operation of several tokens that finds no
 operand is what takes Decode's readers deepest: they call themselves once for each; the operands of an operation of one token are counted."""
 import os
@@ -21,6 +22,14 @@ def chain(first, step, n):
 
 
 STEPS = [3, 4, 3, 5, 6, 4]  # add 1, sub 1, add 1, mul 1, div 1, sub 1
+SIGNS = [(7, 2), (7, -2), (-7, 2), (-7, -2)]
+
+
+def divided(c, i):
+    """Div or Mod of one of the four pairs of signs."""
+    return (c, *((16, n % 2**64) for n in SIGNS[i % 4]))
+
+
 SHAPES = {
     "add": lambda n: chain(ONE, lambda t, i: (22, t, ONE), n),
     "and": lambda n: chain(ONE, lambda t, i: (27, t, ONE), n),
@@ -32,6 +41,8 @@ SHAPES = {
     "add right": lambda n: chain(ONE, lambda t, i: (22, ONE, t), n),
     "mul right": lambda n: (18, chain((1, 0), lambda t, i: (5, (1, 0), t), n)),
     "index left": lambda n: (18, chain((1, 0), lambda t, i: (3, t, (1, 0)), n)),
+    "div": lambda n: chain(ONE, lambda t, i: (27, t, divided(25, i)), n),
+    "mod": lambda n: chain(ONE, lambda t, i: (27, t, divided(26, i)), n),
 }
 
 # Operations, and what stands after them: `Equal` takes a value off, an amount's four tokens an index.
