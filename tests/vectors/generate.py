@@ -19,7 +19,7 @@ from collections import Counter
 
 import model
 import orders
-from conditions import EDGES, GREATEST, INDEX_EDGES, LEAST, codes, condition, const, inverts, oracle, rng, rule_broken, sized
+from conditions import DIVIDENDS, DIVISORS, EDGES, GREATEST, INDEX_EDGES, LEAST, codes, condition, const, inverts, oracle, rng, rule_broken, sized
 from model import BYTES8, BYTES32, MAX_CODE, MAX_ORACLES, MAX_TOKENS, NUM, code_of, form
 from orders import FIVE, KEY, NO_MARK, ONE_INPUT
 
@@ -157,6 +157,11 @@ def evaluations():
             for y in EDGES[:1] if op >= 30 else rng.sample(EDGES, 6) + [0, -1]:
                 t = (op, const(x)) if op >= 30 else (op, const(x), const(y))
                 evaluate(code_of((rng.randrange(48, 53), t, const(rng.choice([x, y, 0])))))
+    for x in DIVIDENDS:  # quotient and remainder of every pair of signs, each compared with its own answer
+        for y in DIVISORS:
+            for op in (25, 26):
+                known = model.quotient_and_remainder(x, y)[op - 25] if y else 0
+                evaluate(code_of((48, (op, const(x), const(y)), const(known))), [([], [])] * 4, 0, (b"", []), 0)
     for x in EDGES:
         for y in rng.sample(EDGES, 5) + [x]:
             for c in range(48, 53):

@@ -169,6 +169,12 @@ def check(code):
         return r.answer[:2]
 
 
+def quotient_and_remainder(a, b):
+    """a = b * q + r, 0 <= r < |b|."""
+    r = a % abs(b)
+    return (a - r) // b, r
+
+
 class Evaluation:
     """Lists are [(numbers, marks)] for spent, outputs, issued and reissued; the witness is its elements, bottom first."""
 
@@ -243,8 +249,7 @@ class Evaluation:
         if c in (25, 26) and y == 0:
             raise Refused(c + 5, x, y)
         if c in (25, 26):
-            r = x % abs(y)
-            q = (x - r) // y
+            q, r = quotient_and_remainder(x, y)
             if not -(2**63) <= q < 2**63:
                 raise Refused(c + 5, x, y)
             return q if c == 25 else r

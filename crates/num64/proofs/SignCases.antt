@@ -1,7 +1,7 @@
 -- Division towards zero, and Euclid's in one step from it. Where 30 and 31 don't fall, both fit in 64 bits.
 use Prim.Native.Nat.{ℕ, zero, suc, _+_, _-_, _*_, _/_, _%_, _<_, _≤_, _^_, zero-le, suc-le-suc}
 use mathlib.Core.Path.{_≡_, refl, sym, ap, _∙_, subst}
-use mathlib.Core.Bool.{Bool, true, false, not, true≢false, false≢true, and-false, and-true, or-false}
+use mathlib.Core.Bool.{Bool, true, false, not, true≢false, false≢true, and-false, or-false}
 use native.Mathlib.Omega.{arith}
 use native.Mathlib.Nat.{mod-lt, div-add-mod, mul-zero, div-le-self, div-lt-self, zero-lt-suc, lt-of-le-of-lt}
 use borrow.Author.Tests.{lt-ltb, le-ltb, ne-eqb, eqb-true, eqb-false, ltb-true, ltb-false}
@@ -98,14 +98,14 @@ one-more a (pos n) k h = absurd (omega (arith, ltb→lt n 0 (h .lt)))
 -- ---- where 30 and 31 don't fall
 
 by-pos : (a : ℤ) (n : ℕ) → noQuotient a (pos n) ≡ eqb n 0
-by-pos a n = rw (and-false, or-false)
+by-pos a n = or-false (eqb n 0)
 
 pub by-positive : (a b : ℤ) → pos 0 <ℤ b → noQuotient a b ≡ false
 by-positive a (pos n) h = by-pos a n ∙ ne-eqb n 0 (λ e. omega (arith, ltb→lt 0 n (h .lt)))
 by-positive a (negsuc n) h = absurd (h .lt)
 
 pub of-nonnegative : (a b : ℤ) → pos 0 ≤ℤ a → b <ℤ pos 0 → noQuotient a b ≡ false
-of-nonnegative (pos m) (negsuc n) h k = refl
+of-nonnegative (pos m) (negsuc n) h k = and-false (eqb n 0)
 of-nonnegative (pos m) (pos n) h k = absurd (omega (arith, ltb→lt n 0 (k .lt)))
 of-nonnegative (negsuc m) b h k = absurd (h .le)
 
@@ -135,7 +135,7 @@ quotZ-lt : (a b : ℤ) → noQuotient a b ≡ false → mag a < 2 ^ 63 → mag (
 quotZ-lt (pos m) (pos n) u h = omega (arith, div-le-self m n)
 quotZ-lt (pos m) (negsuc n) u h = omega (arith, mag-neg (m / suc n) m (omega (arith, div-le-self m (suc n))))
 quotZ-lt (negsuc m) (pos n) u h = omega (arith, mag-neg (suc m / n) m (div-le-self (suc m) n))
-quotZ-lt (negsuc m) (negsuc zero) u h = omega (arith, div-le-self (suc m) 1, eqb-false m (2 ^ 63 - 1) (sym (and-true (eqb m (2 ^ 63 - 1))) ∙ u))
+quotZ-lt (negsuc m) (negsuc zero) u h = omega (arith, div-le-self (suc m) 1, eqb-false m (2 ^ 63 - 1) u)
 quotZ-lt (negsuc m) (negsuc (suc n)) u h = omega (arith, div-lt-self (zero-lt-suc m) (suc-le-suc (zero-lt-suc n)))
 
 bits-nonzero : (b : ℤ) → 0 < natAbs b → SFits w64 b → 0 < ofZ w64 b
@@ -176,9 +176,9 @@ module _ (a b : ℤ) (f : SFits w64 a) (g : SFits w64 b) (u : noQuotient a b ≡
 pub no-quotient : (a b : ℤ) → noQuotient a b ≡ true → Signed64.Overflow ≡ checkedDiv a b
 unfolding checkedDiv
 no-quotient a (pos n) u = rw (sym (by-pos a n) ∙ u)
-no-quotient (pos m) (negsuc n) u = absurd (false≢true u)
-no-quotient (negsuc m) (negsuc zero) u = rw (eqb-true m (2 ^ 63 - 1) (sym (and-true (eqb m (2 ^ 63 - 1))) ∙ u))
-no-quotient (negsuc m) (negsuc (suc n)) u = absurd (false≢true (rw (ne-eqb (suc n) 0 (λ e. omega arith), and-false) at u))
+no-quotient (pos m) (negsuc n) u = absurd (false≢true (sym (and-false (eqb n 0)) ∙ u))
+no-quotient (negsuc m) (negsuc zero) u = rw (eqb-true m (2 ^ 63 - 1) u)
+no-quotient (negsuc m) (negsuc (suc n)) u = absurd (false≢true (rw (ne-eqb (suc n) 0 (λ e. omega arith)) at u))
 
 pub no-remainder : (a b : ℤ) → noQuotient a b ≡ true → Signed64.Overflow ≡ checkedRem a b
 unfolding checkedRem

@@ -8,7 +8,7 @@ use Rattle.word64.specs.Bits.{eqZ}
 
 -- where 30 and 31 fall: by 0, and -2^63 by -1
 abbrev pub noQuotient : ℤ → ℤ → Bool
-noQuotient a b = eqZ b (pos 0) || (eqZ a (negsuc (2 ^ 63 - 1)) && eqZ b (negsuc 0))
+noQuotient a b = eqZ b (pos 0) || (eqZ b (negsuc 0) && eqZ a (negsuc (2 ^ 63 - 1)))
 
 -- what each case gives: a = b × q + r and 0 ≤ r < |b|, on whole numbers
 pub record Euclidean (a b q r : ℤ) : Type 0 where

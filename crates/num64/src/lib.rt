@@ -150,7 +150,11 @@ pub fn checked_mul(a: i64, b: i64) -> Signed64
 fn has_no_quotient(a: i64, b: i64) -> bool
     ensures { λ r. ⌜ r ≡ noQuotient a b ⌝ }
 {
-    (b == 0) | ((a == LEAST) & (b == -1))
+    match b {
+        0 => true,
+        -1 => a == LEAST,
+        _ => false,
+    }
 }
 
 struct Division {
