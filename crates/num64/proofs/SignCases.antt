@@ -127,14 +127,14 @@ module _ (a b : ℤ) (u : noQuotient a b ≡ false) where
 
 -- and so does the quotient towards zero
 
-mag-neg : (k m : ℕ) → k ≤ suc m → mag (negℤ (pos k)) ≤ m
-mag-neg zero m h = zero-le
-mag-neg (suc k) m h = omega arith
+mag-below : (k m : ℕ) → k ≤ suc m → mag (negℤ (pos k)) ≤ m
+mag-below zero m h = zero-le
+mag-below (suc k) m h = omega arith
 
 quotZ-lt : (a b : ℤ) → noQuotient a b ≡ false → mag a < 2 ^ 63 → mag (quotZ a b) < 2 ^ 63
 quotZ-lt (pos m) (pos n) u h = omega (arith, div-le-self m n)
-quotZ-lt (pos m) (negsuc n) u h = omega (arith, mag-neg (m / suc n) m (omega (arith, div-le-self m (suc n))))
-quotZ-lt (negsuc m) (pos n) u h = omega (arith, mag-neg (suc m / n) m (div-le-self (suc m) n))
+quotZ-lt (pos m) (negsuc n) u h = omega (arith, mag-below (m / suc n) m (omega (arith, div-le-self m (suc n))))
+quotZ-lt (negsuc m) (pos n) u h = omega (arith, mag-below (suc m / n) m (div-le-self (suc m) n))
 quotZ-lt (negsuc m) (negsuc zero) u h = omega (arith, div-le-self (suc m) 1, eqb-false m (2 ^ 63 - 1) u)
 quotZ-lt (negsuc m) (negsuc (suc n)) u h = omega (arith, div-lt-self (zero-lt-suc m) (suc-le-suc (zero-lt-suc n)))
 
