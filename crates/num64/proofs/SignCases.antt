@@ -52,20 +52,16 @@ euclidean a b q r e h = record { divided = e; not-negative = record { le = le→
 as-it-is : (a b r : ℤ) → 0 < natAbs b → remZ a b ≡ r → pos 0 ≤ℤ r → Euclidean a b (quotZ a b) r
 as-it-is a b r h e k = rw (← e) (record { divided = towards-zero a b; not-negative = rw e k; below = rem-lt a b h })
 
--- -t + d
-lifted : (t d : ℕ) → t ≤ d → negℤ (pos t) +ℤ pos d ≡ pos (d - t)
-lifted zero d h = let e : 0 + d ≡ d - 0 = omega arith in ap pos e
-lifted (suc t) d h = rw (le-ltb d (suc t) h)
-
--- what is left, where it is negative, and the divisor's magnitude
+-- what is left, where it is negative, with the divisor's magnitude added
 raised : (a b : ℤ) → 0 < natAbs b → remZ a b <ℤ pos 0 → (r : ℕ) × (remZ a b +ℤ pos (natAbs b) ≡ pos r) × (r < natAbs b)
 raised (pos m) b h k = absurd (omega (arith, ltb→lt (m % natAbs b) 0 (k .lt)))
 raised (negsuc m) b h k = go (suc m % natAbs b) (mod-lt (suc m) h) k
   where
     go : (t : ℕ) → t < natAbs b → negℤ (pos t) <ℤ pos 0 → (r : ℕ) × (negℤ (pos t) +ℤ pos (natAbs b) ≡ pos r) × (r < natAbs b)
     go zero l k = absurd (omega (arith, ltb→lt 0 0 (k .lt)))
-    go (suc t) l k = (natAbs b - suc t, lifted (suc t) (natAbs b) (omega arith), omega arith)
+    go (suc t) l k = (natAbs b - suc t, rw (le-ltb (natAbs b) (suc t) (omega arith)), omega arith)
 
+-- what one summand takes off the other puts on
 exchange : (x r s t : ℤ) → x +ℤ s +ℤ t ≡ x → x +ℤ s +ℤ (r +ℤ t) ≡ x +ℤ r
 exchange x r s t e = ap (λ (z : ℤ). x +ℤ s +ℤ z) (+ℤ-comm r t) ∙ sym (+ℤ-assoc (x +ℤ s) t r) ∙ ap (λ (z : ℤ). z +ℤ r) e
 
@@ -80,7 +76,7 @@ module _ (b q r : ℤ) where
       let e : b *ℤ (q +ℤ pos 1) ≡ b *ℤ q +ℤ b = ap (λ (z : ℤ). b *ℤ z) (+ℤ-one q) ∙ *ℤ-comm b (sucℤ q) ∙ sucℤ-*ℤ q b ∙ ap (λ (z : ℤ). z +ℤ b) (*ℤ-comm q b) in
       ap (λ (z : ℤ). z +ℤ (r -ℤ b)) e ∙ exchange (b *ℤ q) r b (negℤ b) (+ℤ-negℤ-cancel (b *ℤ q) b)
 
--- 0 ≤ r < |b| of what a step makes of it
+-- a step by |b|, from what is left where that is negative
 stepped : (a b q r : ℤ) → 0 < natAbs b → remZ a b <ℤ pos 0 → r ≡ remZ a b +ℤ pos (natAbs b) → a ≡ b *ℤ q +ℤ r → Euclidean a b q r
 stepped a b q r h k e f =
     let l = raised a b h k in

@@ -1,3 +1,4 @@
+-- Request R-7: "Where 30 and 31 don't fall, each case is proved by itself to give a = b × q + r and 0 ≤ r < |b| on whole numbers."
 -- For the code of division alone: no promise of a public function rests on it.
 use Prim.Native.Nat.{_-_, _^_}
 use mathlib.Core.Path.{_≡_}
@@ -10,7 +11,7 @@ use Rattle.word64.specs.Bits.{eqZ}
 abbrev pub noQuotient : ℤ → ℤ → Bool
 noQuotient a b = eqZ b (pos 0) || (eqZ b (negsuc 0) && eqZ a (negsuc (2 ^ 63 - 1)))
 
--- what each case gives: a = b × q + r and 0 ≤ r < |b|, on whole numbers
+-- a = b × q + r and 0 ≤ r < |b|
 pub record Euclidean (a b q r : ℤ) : Type 0 where
   pub divided : a ≡ b *ℤ q +ℤ r
   pub not-negative : pos 0 ≤ℤ r
