@@ -144,24 +144,32 @@ only : (a b q r : ℤ) → Euclidean a b q r → (q ≡ quotient a b) × (r ≡ 
 only a b q (pos r) e = let f = euclid-only a b q r (e .divided) (ltb→lt r (natAbs b) (e .below .lt)) in (f .0, ap pos (f .1))
 only a b q (negsuc r) e = absurd (e .not-negative .le)
 
-module _ (a b : ℤ) (f : SFits w64 a) (g : SFits w64 b) (u : noQuotient a b ≡ false) where
+-- two 64-bit numbers where 30 and 31 don't fall
+pub record Given (a b : ℤ) : Type 0 where
+  pub fits-a : SFits w64 a
+  pub fits-b : SFits w64 b
+  pub divisible : noQuotient a b ≡ false
+
+module _ {a b : ℤ} (g : Given a b) where
+  nonzero-b : 0 < natAbs b
+  nonzero-b = nonzero a b (g .divisible)
+
   allowed : (0 < ofZ w64 b) × SFits w64 (quotZ a b)
-  allowed = (bits-nonzero b (nonzero a b u) g, record { sfits = quotZ-lt a b u (f .sfits) })
+  allowed = (bits-nonzero b nonzero-b (g .fits-b), record { sfits = quotZ-lt a b (g .divisible) (g .fits-a .sfits) })
 
   left-fits : SFits w64 (remZ a b)
-  left-fits = record { sfits = lt-of-le-of-lt (mag-rem a b) (f .sfits) }
+  left-fits = record { sfits = lt-of-le-of-lt (mag-rem a b) (g .fits-a .sfits) }
 
-  module _ (q r : ℤ) (e : Euclidean a b q r) where
+  module _ {q r : ℤ} (e : Euclidean a b q r) where
     quotient-fits : SFits w64 q
-    quotient-fits = record { sfits = rw (only a b q r e .0) (quotient-lt a b u (f .sfits)) }
+    quotient-fits = record { sfits = rw (only a b q r e .0) (quotient-lt a b (g .divisible) (g .fits-a .sfits)) }
 
     remainder-fits : SFits w64 r
-    remainder-fits =
-        record { sfits = rw (only a b q r e .1) (omega (arith, rest-lt a (natAbs b) (nonzero a b u), natAbs-le b (g .sfits))) }
+    remainder-fits = record { sfits = rw (only a b q r e .1) (omega (arith, rest-lt a (natAbs b) nonzero-b, natAbs-le b (g .fits-b .sfits))) }
 
     pub div-is : Signed64.Value q ≡ checkedDiv a b
     unfolding checkedDiv
-    div-is = rw (ne-eqb (natAbs b) 0 (λ z. omega (arith, nonzero a b u)), ← only a b q r e .0, lt-ltb (mag q) (2 ^ 63) (quotient-fits .sfits))
+    div-is = rw (ne-eqb (natAbs b) 0 (λ z. omega (arith, nonzero-b)), ← only a b q r e .0, lt-ltb (mag q) (2 ^ 63) (quotient-fits .sfits))
 
     pub rem-is : Signed64.Value r ≡ checkedRem a b
     unfolding checkedRem
@@ -224,39 +232,39 @@ Asks a b = (0 < ofZ w64 b) × SFits w64 (quotZ (word a) (word b))
 abbrev pub Found : ℤ → ℤ → ℤ → ℤ → Type 0
 Found a b q r = SFits w64 q × SFits w64 r × Euclidean a b (word q) (word r)
 
-module _ (a b : ℤ) (f : SFits w64 a) (g : SFits w64 b) (u : noQuotient a b ≡ false) where
+module _ {a b : ℤ} (g : Given a b) where
   pub asks : Asks a b
-  asks = rw (toZ-ofZ f, toZ-ofZ g) (allowed a b f g u)
+  asks = rw (toZ-ofZ (g .fits-a), toZ-ofZ (g .fits-b)) (allowed g)
 
   times-is : times a b ≡ quotZ a b
-  times-is = rw (toZ-ofZ f, toZ-ofZ g) (toZ-ofZ (allowed a b f g u .1))
+  times-is = rw (toZ-ofZ (g .fits-a), toZ-ofZ (g .fits-b)) (toZ-ofZ (allowed g .1))
 
   left-is : left a b ≡ remZ a b
-  left-is = rw (toZ-ofZ f, toZ-ofZ g) (toZ-ofZ (left-fits a b f g u))
+  left-is = rw (toZ-ofZ (g .fits-a), toZ-ofZ (g .fits-b)) (toZ-ofZ (left-fits g))
 
   -- what is left of a number that is not negative is not negative
   pub plain : pos 0 ≤ℤ a → Euclidean a b (times a b) (left a b)
-  plain h = rw (times-is, left-is) (as-it-is a b (remZ a b) (nonzero a b u) refl (rem-nonnegative a b h))
-
-  found : (q r : ℤ) → Euclidean a b q r → Found a b q r
-  found q r e =
-      let k = quotient-fits a b f g u q r e in
-      let l = remainder-fits a b f g u q r e in
-      (k, l, rw (toZ-ofZ k, toZ-ofZ l) e)
+  plain h = rw (times-is, left-is) (as-it-is a b (remZ a b) (nonzero-b g) refl (rem-nonnegative a b h))
 
   -- nothing is left
   pub exact : ofZ w64 (remZ (word a) (word b)) ≡ 0 → Euclidean a b (times a b) (pos 0)
   exact e =
       rw times-is
-      (as-it-is a b (pos 0) (nonzero a b u) (none-left (remZ a b) (left-fits a b f g u) (rw (toZ-ofZ f, toZ-ofZ g) at e)) (≤ℤ-refl (pos 0)))
+      (as-it-is a b (pos 0) (nonzero-b g) (none-left (remZ a b) (left-fits g) (rw (toZ-ofZ (g .fits-a), toZ-ofZ (g .fits-b)) at e)) (≤ℤ-refl (pos 0)))
+
+  found : {q r : ℤ} → Euclidean a b q r → Found a b q r
+  found e =
+      let k = quotient-fits g e in
+      let l = remainder-fits g e in
+      (k, l, rw (toZ-ofZ k, toZ-ofZ l) e)
 
   -- something is left of a negative number
   module _ (h : a <ℤ pos 0) (e : ofZ w64 (remZ (word a) (word b)) ≡ 0 → ⊥) where
     negative-left : remZ a b <ℤ pos 0
-    negative-left = some-left a b h (rw (toZ-ofZ f, toZ-ofZ g) at e)
+    negative-left = some-left a b h (rw (toZ-ofZ (g .fits-a), toZ-ofZ (g .fits-b)) at e)
 
     pub less : pos 0 <ℤ b → Found a b (times a b -ℤ pos 1) (left a b +ℤ word b)
-    less k = rw (times-is, left-is, toZ-ofZ g) (found (quotZ a b -ℤ pos 1) (remZ a b +ℤ b) (one-less a b negative-left k))
+    less k = rw (times-is, left-is, toZ-ofZ (g .fits-b)) (found (one-less a b negative-left k))
 
     pub more : b <ℤ pos 0 → Found a b (times a b +ℤ pos 1) (left a b -ℤ word b)
-    more k = rw (times-is, left-is, toZ-ofZ g) (found (quotZ a b +ℤ pos 1) (remZ a b -ℤ b) (one-more a b negative-left k))
+    more k = rw (times-is, left-is, toZ-ofZ (g .fits-b)) (found (one-more a b negative-left k))
