@@ -21,7 +21,7 @@ KINDS = [
     (r"give a proof of that as the last argument, `(rw|simp) ", r"\1: the two ends differ"),
     (r"the two (types|values|sides) (first )?differ", r"the two \1 differ"),
     (r"computed as far as they go, the two (types|sides) are", r"the two \1 differ"),
-    (r"^`(‹out of reach |Rattle·)", "the two sides differ"),
+    (r"^`(‹out of reach |Rattle·|borrow\.)", "the two sides differ"),
     (r"list the missing equation", "cc: the equations do not give it"),
     (r"expected type `", "another type is expected"),
 ]
