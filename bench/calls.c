@@ -57,7 +57,7 @@ static size_t terminals(void) {
     return n;
 }
 
-/* Lends the condition of a line, with the witness of its oracle terminals: signature, time 3, price 1. Its tokens are written for Decode. */
+/* Lends the condition of a line, with the witness of its oracle terminals: signature, the terminals' time 9, price 1. Its tokens are written for Decode. */
 static void lend(const char *shape, const char *hex) {
     code_count = bytes_of(hex, code);
     ends_count = 3 * terminals();
@@ -65,7 +65,7 @@ static void lend(const char *shape, const char *hex) {
     memset(witness, 0, sizeof witness);
     for (size_t i = 0; i < ends_count; i++) {
         memset(witness + at, i % 3 ? 0 : 5, i % 3 ? 8 : 64);
-        if (i % 3) witness[at] = i % 3 == 1 ? 3 : 1;
+        if (i % 3) witness[at] = i % 3 == 1 ? 9 : 1;
         at += i % 3 ? 8 : 64;
         ends[i] = at;
     }

@@ -54,11 +54,11 @@ covenant_checked covenant_check(const uint8_t *code, size_t code_count);
  *     then the time (8), then the signature (64). So they are lent as signature, time, price, those of the first terminal last. An element that is no push is given
  *     as empty: it ends where the one below it ends;
  *   - a buffer with 112 bytes for each oracle terminal of the condition.
- * A check is 112 bytes: key (32), the terminal's time (8), price (8), signature (64). Checks stand in the order in which the terminals are evaluated. Prices and times are
+ * The witness's time must be at least the terminal's, as on chain: 39 where it is smaller. Both are signed: a time of 2^63 or more is negative.
+ * A check is 112 bytes: key (32), the witness's time (8), price (8), signature (64). Checks stand in the order in which the terminals are evaluated. Prices and times are
  * little-endian. The host verifies all checks that are listed, after a refusal too; the verdict counts only if all hold. A check holds if its signature is one of BIP 340, with
- * its key, over the SHA-256 of its bytes 32 to 47 (time, then price; no tag); a key that is not the x coordinate of a point is a check that failed. If one fails, the answer of
- * the published Rust is InvalidSignature. A witness time before the terminal's is let pass, but the check carries the terminal's: a quote holds only if it was signed for
- * exactly that time.
+ * its key, over the SHA-256 of its bytes 32 to 47 (time, then price; no tag); a key that is not the x coordinate of a point is a check that failed. Where one
+ * fails the script fails on chain.
  * Refusals 1 to 5, 8, 12, 7, then 20 to 41 in evaluation order. `verdict` is 1 for true, 0 for false. The first 112 * `checks` bytes of the buffer are written, after a
  * refusal too, and no byte after them. */
 covenant_evaluated covenant_evaluate(

@@ -72,13 +72,17 @@ static void evaluate(void) {
     oracle_code(code);
     memset(witness, 3, sizeof witness);
     memset(witness + 64, 0, 16);
-    witness[64] = 4; /* the time */
+    witness[64] = 6; /* the time */
     witness[72] = 9; /* the price */
     memset(buffer, FILL, sizeof buffer);
     a = AT(code, 0, witness, ends, 3, buffer, 112);
     expect(a.number == 0 && a.verdict == 1 && a.checks == 1 && a.left == 0, "evaluate: an oracle terminal");
-    expect(!memcmp(buffer, code + 1, 40) && buffer[40] == 9 && !memcmp(buffer + 48, witness, 64), "evaluate: the check's bytes");
+    expect(!memcmp(buffer, code + 1, 32) && !memcmp(buffer + 32, witness + 64, 16) && !memcmp(buffer + 48, witness, 64), "evaluate: the check's bytes");
     expect(kept(buffer, 112, sizeof buffer), "evaluate: bytes after the check");
+    memset(buffer, FILL, sizeof buffer);
+    witness[64] = 4;
+    a = AT(code, 0, witness, ends, 3, buffer, 112);
+    expect(a.number == 39 && a.checks == 0 && a.left == 0 && kept(buffer, 0, sizeof buffer), "evaluate: a time before the terminal's");
     memset(buffer, FILL, sizeof buffer);
     a = AT(code, 0, witness, ends, 3, buffer, 111);
     expect(a.number == 7 && a.left == 3 && kept(buffer, 0, sizeof buffer), "evaluate: a short buffer");
@@ -188,6 +192,7 @@ static void most_terminals(void) {
     static uint64_t numbers[COVENANT_MAX_TOKENS];
     static uint32_t places[COVENANT_MAX_TOKENS], ends[3 * MOST];
     size_t n = terminals_code(code, MOST);
+    memset(witness, 7, sizeof witness); /* the terminals' own time */
     for (uint32_t i = 0; i < 3 * MOST; i++) ends[i] = 80 * (i / 3) + (i % 3 == 0 ? 64 : i % 3 == 1 ? 72 : 80);
     covenant_evaluated e = covenant_evaluate(code, n, 0, 0, 0, 0, 0, 0, 0, 0, 0, 0, 0, 0, 0, 0, 0, 0, 0, witness, sizeof witness, ends, COUNT(ends), checks, sizeof checks);
     expect(e.number == 0 && e.checks == MOST && e.left == 0, "evaluate: the most oracle terminals");

@@ -63,8 +63,8 @@ fn row(code: &[u8], only: Option<usize>) -> [f64; 4] {
         output: spent.clone(),
     };
     let env = TxEnv::new(&tx, &spent, 1).unwrap();
-    let (sig, time, price) = ([5u8; 64], 3u64.to_le_bytes(), 1u64.to_le_bytes());
-    let stack = Stack::from((0..3 * terminals(code)).map(|i| Element::from([&sig[..], &time, &price][i % 3])).collect::<Vec<_>>());
+    let (sig, times, price) = ([5u8; 64], times(code).iter().rev().map(|t| t.to_le_bytes()).collect::<Vec<_>>(), 1u64.to_le_bytes());
+    let stack = Stack::from(times.iter().flat_map(|time| [&sig[..], time, &price].map(Element::from)).collect::<Vec<_>>());
     let script = c.push_to_builder(Builder::new()).into_script();
     let tokens = lex(&script).unwrap();
     assert!(SpkExpr::from_tokens(&tokens) == Some((c.clone(), 0)));

@@ -56,7 +56,7 @@ fn far(f: &[&str]) -> Vec<&'static str> {
     if all.iter().any(|(c, n)| *c == 1 && common::le64(n) > 0x7fff_ffff) {
         parts.push("an index constant above 2^31 - 1");
     }
-    if all.iter().any(|(c, n)| matches!(c, 32 | 33) && common::le64(&n[32..]) >= 1 << 63) {
+    if common::times(&code).iter().any(|t| *t >= 1 << 63) {
         parts.push("a terminal's time of 2^63 or more");
     }
     if f[0] == "E" && f[2].parse::<u64>().expect("index") > 5 {

@@ -33,7 +33,7 @@ impl Random {
             _ => self.of(&[1 << 31, (1 << 32) - 1, 1 << 32, (1 << 63) - 1, 1 << 63, u64::MAX - 1, u64::MAX]).max(least),
         }
     }
-    /// A time: small, so that two times are often equal or one apart, now and then any.
+    /// A time: small, now and then any.
     fn time(&mut self, small: usize) -> u64 {
         if self.below(6) > 0 { self.below(small) as u64 } else { self.wide(0) }
     }
@@ -134,14 +134,25 @@ fn amounts(r: &mut Random, n: usize) -> String {
     if n == 0 { "-".into() } else { all.join(",") }
 }
 
-fn witness(r: &mut Random, terminals: usize) -> String {
+/// The time of a quote for a terminal with that time. Where the two differ the Rust's rule is not ours, but that both refuse a time that is negative as a signed
+/// number for a terminal's that is not.
+fn quoted(r: &mut Random, terminal: u64) -> u64 {
+    if terminal < 1 << 63 && r.below(8) == 0 { r.wide(1 << 63) } else { terminal }
+}
+
+/// The elements of each terminal, those of the first on top; now and then three more below, and some missing or of a wrong width.
+fn witness(r: &mut Random, terminals: &[u64]) -> String {
+    let mut times: Vec<u64> = terminals.iter().map(|t| quoted(r, *t)).collect();
+    if r.below(2) == 0 {
+        times.push(r.time(4));
+    }
     let mut all = vec![];
-    for _ in 0..terminals + r.below(2) {
+    for time in times.into_iter().rev() {
         let wrong = |r: &mut Random, n: usize| if r.below(25) == 0 { r.of(&[0, 1, 7, 9, 32, 63, 65]) } else { n };
         let n = wrong(r, 64);
         all.push(r.bytes(n));
         let n = wrong(r, 8);
-        all.push(r.time(4).to_le_bytes().into_iter().cycle().take(n).collect());
+        all.push(time.to_le_bytes().into_iter().cycle().take(n).collect());
         let n = wrong(r, 8);
         let price = if r.below(10) == 0 { r.next() } else { r.below(1000) as u64 };
         all.push(price.to_le_bytes().into_iter().cycle().take(n).collect());
@@ -223,7 +234,7 @@ pub fn cases(seed: u64, count: usize, mut emit: impl FnMut(String)) {
                 let (inputs, outputs) = (r.below(5), r.below(5));
                 let at = if r.below(16) > 0 { r.below(inputs + 2) as u64 } else { r.wide(5) };
                 let (s, o, i, k) = (amounts(&mut r, inputs), amounts(&mut r, outputs), amounts(&mut r, inputs), amounts(&mut r, inputs));
-                let w = witness(&mut r, terminals(&c));
+                let w = witness(&mut r, &times(&c));
                 format!("E {} {at} {s} {o} {i} {k} {w}", hex(&c))
             }
         });

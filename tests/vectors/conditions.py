@@ -8,6 +8,7 @@ rng = random.Random(20)
 LEAST, GREATEST = -(2**63), 2**63 - 1
 EDGES = [0, 1, 2, -1, -2, 7, -7, 10, LEAST, LEAST + 1, GREATEST, GREATEST - 1, 2**32, 2**31, 3037000500]
 DIVIDENDS, DIVISORS = [0, 1, 6, 7, 8, GREATEST, -1, -6, -7, -8, LEAST + 1, LEAST], [1, 2, 7, GREATEST, -1, -2, -7, LEAST, 0]
+TIMES = [2**63, 2**63 + 1, 2**64 - 1, 0, 1, 5, 2**63 - 1]  # from the least to the greatest signed one
 INDEX_EDGES = [0, 0, 0, 1, 1, 1, 2, 3, 2**31 - 1, 2**31, 2**32 - 1, 2**32, 2**63, 2**64 - 1]
 
 

@@ -19,7 +19,7 @@ from collections import Counter
 
 import model
 import orders
-from conditions import DIVIDENDS, DIVISORS, EDGES, GREATEST, INDEX_EDGES, LEAST, codes, condition, const, inverts, oracle, rng, rule_broken, sized
+from conditions import DIVIDENDS, DIVISORS, EDGES, GREATEST, INDEX_EDGES, LEAST, TIMES, codes, condition, const, inverts, rng, rule_broken, sized
 from model import BYTES8, BYTES32, MAX_CODE, MAX_ORACLES, MAX_TOKENS, NUM, code_of, form
 from orders import FIVE, KEY, NO_MARK, ONE_INPUT
 
@@ -84,7 +84,7 @@ def witness_for(t):
     elements = []
     for c in [x for e in t[1:] for x in oracle_terminals(e)]:
         price = rng.choice([0, 5, 100, 2**63 - 1, 2**63 - 1, 2**63, 2**64 - 1])
-        time = rng.choice([c[2], c[2], c[2], 0, max(c[2] - 1, 0), min(c[2] + 1, 2**64 - 1)])
+        time = rng.choice([c[2], c[2], c[2], 0, (c[2] - 1) % 2**64, (c[2] + 1) % 2**64])
         e = [price.to_bytes(8, "little"), time.to_bytes(8, "little"), rng.randbytes(64)]
         if rng.random() < 0.25:
             k = rng.randrange(3)
@@ -169,10 +169,6 @@ def evaluations():
     for x in INDEX_EDGES[2:]:  # every index step at the edges
         for y in INDEX_EDGES[2:]:
             evaluate(code_of((48, (18, (rng.choice([3, 4, 5, 6]), (1, x), (1, y))), const(1))))
-    ordered = (48, oracle(32), const(5))
-    for elements in ([b"1234567"], [bytes(8), bytes(8)], [bytes(63), bytes([255] * 8), bytes(8)], [bytes(64), bytes(8), bytes([255] * 8)], [], [bytes(9)]):
-        for _ in range(2):
-            evaluate(code_of(ordered), lent=(b"".join(elements), [sum(len(x) for x in elements[: k + 1]) for k in range(len(elements))]), room=112)
     while cases.seen[2, 12] < 12 or cases.seen[2, 7] < 12:
         evaluate(code_of(condition(2, "oc")), lists=[([], []), ([1], [1]), ([], []), ([], [])])
 
@@ -305,7 +301,7 @@ def decodings():
 NINE = const(9)
 HIDDEN = [([7], [0]), ([8], [0]), ([0], [0]), ([0], [0])]
 SIGNATURE, PRICE = bytes(64), (9).to_bytes(8, "little")
-EARLY, EXACT, LATE = [n.to_bytes(8, "little") for n in (4, 5, 6)]
+EARLY, EXACT, LATER = [n.to_bytes(8, "little") for n in (4, 5, 6)]
 
 
 def told(got, wanted):
@@ -368,20 +364,33 @@ def oracle_examples():
     priced = equals_five((32, KEY, 5))
     told_evaluation(7, priced, room=111)
     for number, lent in (
-        (33, []), (34, [b"1234567"]), (35, [PRICE]), (36, [b"1234567", PRICE]), (37, [PRICE, PRICE]), (38, [bytes(63), LATE, PRICE]),
-        (39, [SIGNATURE, LATE, PRICE]), (40, [SIGNATURE, bytes(8), bytes([0] * 7 + [128])]),
+        (33, []), (34, [b"1234567"]), (35, [PRICE]), (36, [b"1234567", PRICE]), (37, [EARLY, PRICE]), (38, [bytes(63), EARLY, PRICE]),
+        (39, [SIGNATURE, EARLY, PRICE]), (40, [SIGNATURE, EXACT, bytes([0] * 7 + [128])]),
     ):
         told_evaluation(number, priced, lent=elements(*lent))
     at_least_nine = code_of((52, (32, KEY, 5), NINE))  # the worked example
     eight = (8).to_bytes(8, "little")
-    check_bytes = lambda price: KEY + (5).to_bytes(8, "little") + price + SIGNATURE
+    check_bytes = lambda time, price: KEY + time + price + SIGNATURE
     run = lambda *es: evaluate(at_least_nine, ONE_INPUT, 0, elements(*es), 112)
-    told(run(SIGNATURE, EXACT, PRICE), (0, 1, 0, 0, 1, 0, check_bytes(PRICE)))
-    told(run(SIGNATURE, EXACT, eight), (0, 0, 0, 0, 1, 0, check_bytes(eight)))
-    told(run(SIGNATURE, EARLY, PRICE), (0, 1, 0, 0, 1, 0, check_bytes(PRICE)))  # the check has the condition's time
-    told(run(SIGNATURE, LATE, PRICE), (39, 0, 0, 0, 0, 0, b""))
+    told(run(SIGNATURE, EXACT, PRICE), (0, 1, 0, 0, 1, 0, check_bytes(EXACT, PRICE)))
+    told(run(SIGNATURE, EXACT, eight), (0, 0, 0, 0, 1, 0, check_bytes(EXACT, eight)))
+    told(run(SIGNATURE, LATER, PRICE), (0, 1, 0, 0, 1, 0, check_bytes(LATER, PRICE)))  # the check has the witness's time
+    told(run(SIGNATURE, EARLY, PRICE), (39, 0, 0, 0, 0, 0, b""))
     told(run(PRICE, EXACT, SIGNATURE), (34, 0, 0, 0, 0, 2, b""))
     told(run(SIGNATURE, EXACT, b""), (34, 0, 0, 0, 0, 2, b""))  # an element that is no push
+
+
+def quotes():
+    """R-8: the times of a terminal and of its quote, and what comes before 39 and after it."""
+    for k, terminal in enumerate(TIMES):
+        for n, time in enumerate(TIMES):
+            quote = elements(SIGNATURE, time.to_bytes(8, "little"), PRICE)
+            wanted = (0, 1, 0, 0, 1, 0, KEY + quote[0][64:] + SIGNATURE) if n >= k else (39, 0, 0, 0, 0, 0, b"")
+            told(evaluate(code_of((48, (32, KEY, terminal), NINE)), ONE_INPUT, 0, quote, 112), wanted)
+    for number, es in (  # where the time is before the terminal's
+        (34, [SIGNATURE, EARLY, bytes(7)]), (37, [EARLY, PRICE]), (38, [bytes(63), EARLY, PRICE]), (38, [bytes(65), EARLY, PRICE]), (39, [SIGNATURE, EARLY, bytes([255] * 8)]),
+    ):
+        told_evaluation(number, equals_five((32, KEY, 5)), lent=elements(*es))
 
 
 def decoding_examples():
@@ -500,6 +509,7 @@ def main():
     for c in codes():
         check(c)
     evaluations()
+    quotes()
     for c in codes():
         write(c)
     for _ in range(900):

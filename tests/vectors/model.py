@@ -1,5 +1,5 @@
-"""Document 01 in Python: the four calls on lists and bytes. Written from the document's words alone, with trees, whole numbers and a reader that tries every
-production at every place, so that it shares no way of working with the code that it judges."""
+"""Document 01 in Python, with what document 02's requests change of it (named where they do): the four calls on lists and bytes. Written from the documents' words alone,
+with trees, whole numbers and a reader that tries every production at every place, so that it shares no way of working with the code that it judges."""
 
 MAX_CODE, MAX_TOKENS = 9216, 1024
 MAX_ORACLES = 73  # follows from MAX_TOKENS, as include/covenant.h tells
@@ -215,9 +215,9 @@ class Evaluation:
         price = self.pop(8, 33, 34)
         told = self.pop(8, 35, 36)
         signature = self.pop(64, 37, 38)
-        if time < word(told):
+        if signed(word(told)) < signed(time):  # R-8
             raise Refused(39)
-        self.checks.append(key + time.to_bytes(8, "little") + price + signature)
+        self.checks.append(key + told + price + signature)
         if word(price) >= 2**63:
             raise Refused(40)
         return word(price)

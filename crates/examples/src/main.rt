@@ -199,6 +199,45 @@ fn evaluate(asked: &[u8], code: &[u8], input: u64) {
     ));
 }
 
+// What the host is to verify.
+fn check_listed(time: u8, price: u8) {
+    column(b"      time and price of its check");
+    number(time as u64);
+    told(b", ", price as u64);
+    text(b"\n");
+}
+
+// The price of the oracle with the key 4, 5, .. 35 is at least 9, from time 5 on; with a quote of 9 for a time.
+fn evaluate_quote(asked: &[u8], time: u8) {
+    let code =
+        b"\x20\x04\x05\x06\x07\x08\x09\x0a\x0b\x0c\x0d\x0e\x0f\x10\x11\x12\x13\x14\x15\x16\x17\x18\x19\x1a\x1b\x1c\x1d\x1e\x1f\x20\x21\x22\x23\x05\x00\x00\x00\x00\x00\x00\x00\x10\x09\x00\x00\x00\x00\x00\x00\x00\x34";
+    let mut witness = [0u8; 80];
+    witness[64] = time;
+    witness[72] = 9;
+    let mut checks = [0u8; 112];
+    let answer = evaluation::evaluate(
+        code,
+        &[],
+        &[],
+        &[],
+        &[],
+        &[],
+        &[],
+        &[],
+        &[],
+        0,
+        &witness,
+        &[64, 72, 80],
+        &mut checks,
+    );
+    let listed = answer.checks;
+    column(asked);
+    evaluated(answer);
+    if listed == 1 {
+        check_listed(checks[32], checks[40]);
+    }
+}
+
 // The token form, of conditions without keys.
 fn write(asked: &[u8], code: &[u8]) {
     column(asked);
@@ -334,6 +373,22 @@ fn index_product() {
     write(b"    Write: Output(CurrIdx * 3) Eq 5", times_three);
 }
 
+// Not one of the thirteen: a quote's time is at least the terminal's, and its own time is what the check has (R-8).
+fn quotes() {
+    evaluate_quote(
+        b"    Evaluate: PriceOracle1 of time 5 Geq 9, quote of time 4",
+        4,
+    );
+    evaluate_quote(
+        b"    Evaluate: PriceOracle1 of time 5 Geq 9, quote of time 5",
+        5,
+    );
+    evaluate_quote(
+        b"    Evaluate: PriceOracle1 of time 5 Geq 9, quote of time 6",
+        6,
+    );
+}
+
 fn main() {
     text(b"no  asked                                                           answered\n");
     five_is_five();
@@ -344,4 +399,5 @@ fn main() {
     indexes();
     text(b"\nbeside document 01's thirteen\n");
     index_product();
+    quotes();
 }

@@ -48,6 +48,10 @@ eq x y = code (Arith.Compare CmpOp.Eq x y)
 abbrev price : List ℕ
 price = eq (Expr.PriceOracle1 key 5) (Expr.Const 9)
 
+-- one with time 2^63, the least of all signed ones
+abbrev least : List ℕ
+least = eq (Expr.PriceOracle1 key (2 ^ 63)) (Expr.Const 9)
+
 abbrev signature : List ℕ
 signature = replicate 64 3
 
@@ -67,6 +71,14 @@ answer c e bytes ends buffer = shown (on c e bytes ends buffer .answer)
 
 abbrev room : List ℕ
 room = replicate 114 1
+
+-- with a quote of that time, for a price of 9
+abbrev quoted : List ℕ → ℕ → List ℕ
+quoted c time = answer c env (signature ++ littleEndian 8 time ++ littleEndian 8 9) (64 ∷ 72 ∷ 80 ∷ []) room
+
+-- true, with one check and no element left
+abbrev met : List ℕ
+met = 0 ∷ 1 ∷ 0 ∷ 1 ∷ 0 ∷ []
 
 abbrev past : Expr
 past = Expr.Lookup AmountList.Input (IdxExpr.Op IdxOp.Sub IdxExpr.CurrIdx (IdxExpr.Const 1))
@@ -147,15 +159,18 @@ readings =
     ∷ (kinds (IdxExpr.Op IdxOp.Div (IdxExpr.Const 2) IdxExpr.CurrIdx), 1 ∷ 7 ∷ 4 ∷ 7 ∷ 10 ∷ 1 ∷ 14 ∷ 15 ∷ 16 ∷ 8 ∷ [])
     -- one 7-byte element: it is popped and judged before the next pop
     ∷ (answer price env (replicate 7 0) (7 ∷ []) room, bare 34 ++ 0 ∷ 0 ∷ [])
-    -- a late time is judged after the signature
-    ∷ (answer price env (littleEndian 8 6 ++ littleEndian 8 9) (8 ∷ 16 ∷ []) room, bare 37 ++ 0 ∷ 0 ∷ [])
-    ∷ (answer price env (replicate 63 3 ++ littleEndian 8 6 ++ littleEndian 8 9) (63 ∷ 71 ∷ 79 ∷ []) room, bare 38 ++ 0 ∷ 0 ∷ [])
-    ∷ (answer price env (signature ++ littleEndian 8 6 ++ littleEndian 8 9) (64 ∷ 72 ∷ 80 ∷ []) room, bare 39 ++ 0 ∷ 0 ∷ [])
+    -- a time below the terminal's is judged after the signature
+    ∷ (answer price env (littleEndian 8 4 ++ littleEndian 8 9) (8 ∷ 16 ∷ []) room, bare 37 ++ 0 ∷ 0 ∷ [])
+    ∷ (answer price env (replicate 63 3 ++ littleEndian 8 4 ++ littleEndian 8 9) (63 ∷ 71 ∷ 79 ∷ []) room, bare 38 ++ 0 ∷ 0 ∷ [])
+    ∷ (quoted price 4, bare 39 ++ 0 ∷ 0 ∷ [])
+    -- equal times pass, and both are signed: a witness time of 2^64 - 1 is -1, and every time passes a terminal's of 2^63
+    ∷ (quoted price 5, met) ∷ (quoted price (2 ^ 63 - 1), met) ∷ (quoted price (2 ^ 63), bare 39 ++ 0 ∷ 0 ∷ []) ∷ (quoted price (2 ^ 64 - 1), bare 39 ++ 0 ∷ 0 ∷ [])
+    ∷ (quoted least 0, met) ∷ (quoted least (2 ^ 63), met)
     -- a price of 2^63: its own check is written
     ∷ (answer price env (signature ++ littleEndian 8 5 ++ littleEndian 8 (2 ^ 63)) (64 ∷ 72 ∷ 80 ∷ []) room, bare 40 ++ 1 ∷ 0 ∷ [])
-    -- true, with one check and two elements left below; the check is key, the terminal's time, price, signature, and the buffer's rest is kept
-    ∷ (answer price env (signature ++ littleEndian 8 4 ++ littleEndian 8 9) (0 ∷ 0 ∷ 64 ∷ 72 ∷ 80 ∷ []) room, 0 ∷ 1 ∷ 0 ∷ 1 ∷ 2 ∷ [])
-    ∷ (on price env (signature ++ littleEndian 8 4 ++ littleEndian 8 9) (64 ∷ 72 ∷ 80 ∷ []) room .buffer, key ++ littleEndian 8 5 ++ littleEndian 8 9 ++ signature ++ 1 ∷ 1 ∷ [])
+    -- true, with one check and two elements left below; the check is key, the witness time, price, signature, and the buffer's rest is kept
+    ∷ (answer price env (signature ++ littleEndian 8 6 ++ littleEndian 8 9) (0 ∷ 0 ∷ 64 ∷ 72 ∷ 80 ∷ []) room, 0 ∷ 1 ∷ 0 ∷ 1 ∷ 2 ∷ [])
+    ∷ (on price env (signature ++ littleEndian 8 6 ++ littleEndian 8 9) (64 ∷ 72 ∷ 80 ∷ []) room .buffer, key ++ littleEndian 8 6 ++ littleEndian 8 9 ++ signature ++ 1 ∷ 1 ∷ [])
     -- witness bytes after the last end are no element
     ∷ (answer (eq (Expr.Const 5) (Expr.Const 5)) env (7 ∷ 7 ∷ []) (1 ∷ []) [], 0 ∷ 1 ∷ 0 ∷ 0 ∷ 1 ∷ [])
     -- a key's bytes stay in their order, and a time's lowest byte comes first

@@ -6,9 +6,10 @@ use mathlib.Core.Option.{Option, none, some}
 use lib.ListN.{length, getD}
 use lib.Dec.{eqb, ltb}
 use lib.IntN.{ℤ, pos, negsuc}
+use lib.Signed.{ltZ}
 use Rattle.word64.specs.Bits.{signedOf}
 use Rattle.index64.specs.Steps.{inRange}
-use Rattle.slices.specs.Bytes.{littleEndian, bytesValue}
+use Rattle.slices.specs.Bytes.{bytesValue}
 use Rattle.semantics.specs.Operations.{Value, idxRow, listRow, binRow, unRow, cmpRow}
 use Rattle.semantics.specs.Refusals.{Refusal}
 use Rattle.semantics.specs.Trees.{AmountList, BinOp, UnOp, IdxExpr, Expr, Arith}
@@ -83,13 +84,14 @@ popFrom width absent wrong st (e ∷ es) =
 abbrev pub pop : ℕ → Refusal → Refusal → State → Outcome (List ℕ)
 pop width absent wrong st = popFrom width absent wrong st (st .left)
 
--- 39: "If the terminal's time is below the witness time, unsigned"
+-- R-8: "The opcodes require the witness time to be at least the terminal's time, both signed"; "39 means the witness time is smaller":
+-- the terminal's time still lay in the future when the quote was made
 abbrev pub inFuture : ℕ → ℕ → Bool
-inFuture time witnessTime = ltb time witnessTime
+inFuture time witnessTime = ltZ (signedOf witnessTime) (signedOf time)
 
--- "a check of 112 bytes ..: key, the terminal's time, price, signature"
-abbrev pub checkBytes : List ℕ → ℕ → List ℕ → List ℕ → List ℕ
-checkBytes key time price signature = key ++ littleEndian 8 time ++ price ++ signature
+-- "a check of 112 bytes ..: key, .. time, price, signature", and R-8: "the listed check carries the witness time"
+abbrev pub checkBytes : List ℕ → List ℕ → List ℕ → List ℕ → List ℕ
+checkBytes key witnessTime price signature = key ++ witnessTime ++ price ++ signature
 
 -- "pops price, then time (8 bytes each), then signature (64 bytes)"; "A price of 2^63 or more: 40"
 unfoldable pub oracle : List ℕ → ℕ → State → Outcome ℤ
@@ -97,7 +99,7 @@ oracle key time st =
     onward (pop 8 Refusal.MissingPrice Refusal.Price8BytePush st) λ price st₁.
     onward (pop 8 Refusal.MissingTimestamp Refusal.Timstamp8BytePush st₁) λ witnessTime st₂.
     onward (pop 64 Refusal.MissingOracleSignature Refusal.MalformedSig st₂) λ signature st₃.
-    let check = checkBytes key time price signature in
+    let check = checkBytes key witnessTime price signature in
     let st₄ : State = record { checks = st₃ .checks + 1; written = st₃ .written ++ check; left = st₃ .left } in
     cond (inFuture time (bytesValue witnessTime)) (err Refusal.TimestampInFuture st₃)
     (cond (ltb (bytesValue price) (2 ^ 63)) (ok (pos (bytesValue price)) st₄) (err Refusal.PriceOverflow st₄))

@@ -1,20 +1,19 @@
 -- What an oracle terminal makes of the witness and of the buffer for the checks.
-use Prim.Native.Nat.{ℕ, _+_, _-_, _*_, _^_, _≤_, _<_}
+use Prim.Native.Nat.{ℕ, _+_, _-_, _*_, _^_, _≤_}
 use mathlib.Core.Path.{_≡_, refl, sym, ap, _∙_}
 use mathlib.Core.Bool.{Bool, true, false, cond}
 use mathlib.Core.List.{List, _++_, append-assoc}
 use native.Mathlib.Omega.{arith}
-use borrow.Author.Tests.{le-ltb, lt-ltb}
 use lib.Dec.{ltb}
 use lib.IntN.{ℤ, pos}
-use lib.ListN.{length, take, drop, length-append, length-take, length-drop, take-append-drop}
-use lib.Seq.{drop-at, drop-drop, length-paste-head, length-take-le, paste, take-at}
+use lib.ListN.{length, take, drop, length-append, length-drop}
+use lib.Seq.{drop-at, drop-drop, length-paste-head, length-take-le, paste, take-at, take-take}
 use Rattle.slices.specs.Bytes.{Read64, bytesValue}
 use Rattle.semantics.proofs.Machine.{time-at}
 use Rattle.semantics.specs.declared.Refusal.{Refusal}
 use Rattle.semantics.specs.declared.Value.{Value}
 use Rattle.semantics.specs.Evaluate.{endsSound}
-use Rattle.semantics.specs.Evaluation.{Outcome, State, checkBytes, err, ok, onward, oracle, outcome, pop}
+use Rattle.semantics.specs.Evaluation.{Outcome, State, checkBytes, err, inFuture, ok, onward, oracle, outcome, pop}
 use Rattle.witness.specs.declared.Judged.{Judged}
 use Rattle.witness.specs.declared.Place.{Place}
 use Rattle.witness.specs.declared.Witness.{Witness}
@@ -127,48 +126,55 @@ module _ (code : List ℕ) (at : ℕ) (w ends old : List ℕ) (sound : endsSound
         rw (g .0, g .1) (pops-refused w ends old sound h few 8 Refusal.MissingPrice Refusal.Price8BytePush (afterPrice key time) x e)
 
 -- the terminal's time
-pub time-is : (code : List ℕ) (at t : ℕ) → Read64 code (at + 32) t → timeAt code at ≡ t
+time-is : (code : List ℕ) (at t : ℕ) → Read64 code (at + 32) t → timeAt code at ≡ t
 time-is code at t r = ap bytesValue (time-at code at) ∙ sym (r .value)
 
--- the check is key, the terminal's time, price, signature
-check-is : (code : List ℕ) (at t : ℕ) (w : List ℕ) (p q : ℕ) → Read64 code (at + 32) t
-    → checkBytes (keyAt code at) t (take 8 (drop p w)) (take 64 (drop q w)) ≡ checkOf code at w p q
+-- the check is key, the witness time, price, signature
+check-is : (code : List ℕ) (at : ℕ) (w : List ℕ) (t p q : ℕ)
+    → checkBytes (keyAt code at) (take 8 (drop t w)) (take 8 (drop p w)) (take 64 (drop q w)) ≡ checkOf code at w t p q
 unfolding checkOf
-check-is code at t w p q r =
-    rw (r .bytes, ← time-at code at, take-append-drop 32 (take 40 (drop at code)))
-    (append-assoc (take 40 (drop at code)) (take 8 (drop p w)) (take 64 (drop q w)))
+check-is code at w t p q = rw (take-take 32 40 (drop at code) (omega arith)) (simp append-assoc)
 
--- three copies, one behind the other
+-- four copies, one behind the other
 grown : (x d s : List ℕ) (b m : ℕ) → length x ≡ b → paste (x ++ drop b d) b s m ≡ x ++ take m s ++ drop (b + m) d
 grown x d s b m e =
     let f : drop (b + m) (x ++ drop b d) ≡ drop (b + m) d =
     sym (drop-drop m b (x ++ drop b d)) ∙ ap (λ (l : List ℕ). drop m l) (drop-at x (drop b d) b e) ∙ drop-drop m b d in
     rw (take-at x (drop b d) b e, f)
 
-pub three-copies : (d a b c : List ℕ) (o : ℕ) → o ≤ length d → 40 ≤ length a → 8 ≤ length b
-    → paste (paste (paste d o a 40) (o + 40) b 8) (o + 48) c 64 ≡ take o d ++ (take 40 a ++ (take 8 b ++ take 64 c)) ++ drop (o + 112) d
-three-copies d a b c o h k l =
-    let e : o + 40 + 8 ≡ o + 48 = omega arith in
-    let f : o + 48 + 64 ≡ o + 112 = omega arith in
-    let x : length (take o d ++ take 40 a) ≡ o + 40 = length-paste-head d o a 40 h k in
-    let y : length (take o d ++ take 40 a ++ take 8 b) ≡ o + 48 = length-append (take o d ++ take 40 a) (take 8 b) ∙ omega (arith, x, length-take-le 8 b l) in
-    rw (grown (take o d ++ take 40 a) d b (o + 40) 8 x, e, grown (take o d ++ take 40 a ++ take 8 b) d c (o + 48) 64 y, f) (simp append-assoc)
+pub four-copies : (d a b c e : List ℕ) (o : ℕ) → o ≤ length d → 32 ≤ length a → 8 ≤ length b → 8 ≤ length c
+    → paste (paste (paste (paste d o a 32) (o + 32) b 8) (o + 40) c 8) (o + 48) e 64
+    ≡ take o d ++ (take 32 a ++ (take 8 b ++ (take 8 c ++ take 64 e))) ++ drop (o + 112) d
+four-copies d a b c e o h k l m =
+    let d₁ = take o d ++ take 32 a in
+    let d₂ = d₁ ++ take 8 b in
+    let d₃ = d₂ ++ take 8 c in
+    let o₂ : o + 32 + 8 ≡ o + 40 = omega arith in
+    let o₃ : o + 40 + 8 ≡ o + 48 = omega arith in
+    let o₄ : o + 48 + 64 ≡ o + 112 = omega arith in
+    let x : length d₁ ≡ o + 32 = length-paste-head d o a 32 h k in
+    let y : length d₂ ≡ o + 40 = length-append d₁ (take 8 b) ∙ omega (arith, x, length-take-le 8 b l) in
+    let z : length d₃ ≡ o + 48 = length-append d₂ (take 8 c) ∙ omega (arith, y, length-take-le 8 c m) in
+    rw (grown d₁ d b (o + 32) 8 x, o₂, grown d₂ d c (o + 40) 8 y, o₃, grown d₃ d e (o + 48) 64 z, o₄) (simp append-assoc)
 
 priced-outcome : (n : ℕ) (st : State) (b : Bool)
     → outcome (cond b (Value.Number (pos n)) (Value.Refused Refusal.PriceOverflow)) st ≡ cond b (ok (pos n) st) (err Refusal.PriceOverflow st)
 priced-outcome n st true = refl
 priced-outcome n st false = refl
 
+part-length : (s : List ℕ) (at k : ℕ) → at + k ≤ length s → length (take k (drop at s)) ≡ k
+part-length s at k h = length-take-le k (drop at s) (rw length-drop (omega arith))
+
 -- after the three pops: the time at t, the price at p and the signature at q
 module _ (code : List ℕ) (at : ℕ) (w ends old : List ℕ) (p t q left checks time : ℕ) (terminal : Read64 code (at + 32) time) where
   abbrev rest : State → Outcome ℤ
   rest = afterSignature (keyAt code at) (timeAt code at) (take 8 (drop p w)) (take 8 (drop t w)) (take 64 (drop q w))
 
-  pub judged-late : time < bytesValue (take 8 (drop t w))
+  pub judged-late : inFuture time (bytesValue (take 8 (drop t w))) ≡ true
       → Gives rest w ends old old (record { left = left; checks = checks }) (Value.Refused Refusal.TimestampInFuture) (record { left = left; checks = checks })
   judged-late h =
       record {
-        gives = rw (time-is code at time terminal, lt-ltb time (bytesValue (take 8 (drop t w))) h);
+        gives = rw (time-is code at time terminal, h);
         fewer = omega arith;
         more = omega arith;
         one = omega arith;
@@ -176,17 +182,19 @@ module _ (code : List ℕ) (at : ℕ) (w ends old : List ℕ) (p t q left checks
       }
 
   -- the check stands behind those before it
-  module _ (room : 112 * checks + 112 ≤ length old) (operands : at + 40 ≤ length code) (price : p + 8 ≤ length w) (signature : q + 64 ≤ length w)
-      (intime : bytesValue (take 8 (drop t w)) ≤ time) where
+  module _ (room : 112 * checks + 112 ≤ length old) (operands : at + 40 ≤ length code) (price : p + 8 ≤ length w) (witnessTime : t + 8 ≤ length w)
+      (signature : q + 64 ≤ length w) (intime : inFuture time (bytesValue (take 8 (drop t w))) ≡ false) where
     abbrev check : List ℕ
-    check = checkOf code at w p q
+    check = checkOf code at w t p q
 
     abbrev new : List ℕ
     new = take (112 * checks) old ++ check ++ drop (112 * checks + 112) old
 
     check-length : length check ≡ 112
     unfolding checkOf
-    check-length = simp (length-append, length-take, length-drop) (omega arith)
+    check-length =
+        let k = part-length code at 32 (omega (arith, operands)) in
+        simp length-append (omega (arith, k, part-length w t 8 witnessTime, part-length w p 8 price, part-length w q 64 signature))
 
     front-length : length (take (112 * checks) old ++ check) ≡ 112 * (checks + 1)
     front-length = length-append (take (112 * checks) old) check ∙ omega (arith, length-take-le (112 * checks) old (omega arith), check-length)
@@ -206,8 +214,8 @@ module _ (code : List ℕ) (at : ℕ) (w ends old : List ℕ) (p t q left checks
           gives =
               rw (
                 time-is code at time terminal,
-                check-is code at time w p q terminal,
-                le-ltb time (bytesValue (take 8 (drop t w))) intime,
+                check-is code at w t p q,
+                intime,
                 ← e,
                 is,
                 front,

@@ -18,7 +18,7 @@ use Rattle.witness.specs.Elements.{stateOf}
 
 abbrev pub afterSignature : List ℕ → ℕ → List ℕ → List ℕ → List ℕ → State → Outcome ℤ
 afterSignature key time price witnessTime signature st =
-    let check = checkBytes key time price signature in
+    let check = checkBytes key witnessTime price signature in
     let listed : State = record { checks = st .checks + 1; written = st .written ++ check; left = st .left } in
     cond (inFuture time (bytesValue witnessTime)) (err Refusal.TimestampInFuture st)
     (cond (ltb (bytesValue price) (2 ^ 63)) (ok (pos (bytesValue price)) listed) (err Refusal.PriceOverflow listed))
@@ -41,9 +41,9 @@ keyAt code at = take 32 (take 40 (drop at code))
 abbrev pub timeAt : List ℕ → ℕ → ℕ
 timeAt code at = bytesValue (drop 32 (take 40 (drop at code)))
 
--- the check: the terminal's operands, then price and signature, which stand at p and q in the witness
-unfoldable pub checkOf : List ℕ → ℕ → List ℕ → ℕ → ℕ → List ℕ
-checkOf code at witness p q = take 40 (drop at code) ++ (take 8 (drop p witness) ++ take 64 (drop q witness))
+-- the check: the terminal's key, then time, price and signature, which stand at t, p and q in the witness
+unfoldable pub checkOf : List ℕ → ℕ → List ℕ → ℕ → ℕ → ℕ → List ℕ
+checkOf code at witness t p q = take 32 (drop at code) ++ (take 8 (drop t witness) ++ (take 8 (drop p witness) ++ take 64 (drop q witness)))
 
 -- what an oracle terminal may go by
 pub record Asks (code : List ℕ) (at : ℕ) (witness ends out : List ℕ) (h : Witness) : Type 0 where

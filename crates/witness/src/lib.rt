@@ -7,20 +7,20 @@ ghost use mathlib.Core.List.{List, _++_};
 ghost use Prim.Native.Nat.{ℕ, _+_, _-_, _*_, _≤_, _<_};
 ghost use lib.ListN.{length, take, drop};
 ghost use Rattle.semantics.specs.Evaluate.{endsSound};
-ghost use Rattle.semantics.specs.Evaluation.{oracle};
+ghost use Rattle.semantics.specs.Evaluation.{inFuture, oracle};
 ghost use Rattle.witness.specs.Elements.{fewer, placed, popped, takenPlace, takenWitness};
 ghost use Rattle.witness.specs.Oracle.{Asks, Gives, Judges, Settles, afterSignature, checkOf, keyAt, priced, timeAt};
 
-// The parts of a check: key and time of the terminal, price and signature of the witness.
+// The parts of a check: the terminal's key, and time, price and signature of the witness.
 const KEY_BYTES: usize = 32;
 
 const NUMBER_BYTES: usize = 8;
 
 const SIGNATURE_BYTES: usize = 64;
 
-const OPERAND_BYTES: usize = KEY_BYTES + NUMBER_BYTES;
+const PRICE_AT: usize = KEY_BYTES + NUMBER_BYTES;
 
-const SIGNATURE_AT: usize = OPERAND_BYTES + NUMBER_BYTES;
+const SIGNATURE_AT: usize = PRICE_AT + NUMBER_BYTES;
 
 pub const CHECK_BYTES: usize = SIGNATURE_AT + SIGNATURE_BYTES;
 
@@ -147,24 +147,33 @@ fn take(
     }
 }
 
-// ---- the check
+// ---- time, check and price
 
-// Check number n: key and time of the terminal, price and signature of the witness.
+// Whether the witness time is smaller than the terminal's, both signed.
+fn in_future(terminal: u64, witness: u64) -> bool
+    ensures { λ r. ⌜ r ≡ inFuture terminal witness ⌝ }
+{
+    word64::lt(word64::signed(witness), word64::signed(terminal))
+}
+
+// Check number n: the terminal's key, and time, price and signature of the witness.
 fn list_check(
     code: &[u8],
     at: usize,
     witness: &[u8],
+    time: usize,
     price: usize,
     signature: usize,
     out: &mut [u8],
     n: usize,
 )
-    requires { ⌜ (at + 40 ≤ length (now code)) × (price + 8 ≤ length (now witness)) × (signature + 64 ≤ length (now witness)) × (112 * n + 112 ≤ length (now out)) ⌝ }
-    ensures { λ _. ⌜ now (out .exit) ≡ take (112 * n) (now (out .entry)) ++ checkOf (now (code .entry)) at (now (witness .entry)) price signature ++ drop (112 * n + 112) (now (out .entry)) ⌝ }
+    requires { ⌜ (at + 40 ≤ length (now code)) × (time + 8 ≤ length (now witness)) × (price + 8 ≤ length (now witness)) × (signature + 64 ≤ length (now witness)) × (112 * n + 112 ≤ length (now out)) ⌝ }
+    ensures { λ _. ⌜ now (out .exit) ≡ take (112 * n) (now (out .entry)) ++ checkOf (now (code .entry)) at (now (witness .entry)) time price signature ++ drop (112 * n + 112) (now (out .entry)) ⌝ }
 {
     let off = CHECK_BYTES * n;
-    slices::copy(code, at, out, off, OPERAND_BYTES);
-    slices::copy(witness, price, out, off + OPERAND_BYTES, NUMBER_BYTES);
+    slices::copy(code, at, out, off, KEY_BYTES);
+    slices::copy(witness, time, out, off + KEY_BYTES, NUMBER_BYTES);
+    slices::copy(witness, price, out, off + PRICE_AT, NUMBER_BYTES);
     slices::copy(witness, signature, out, off + SIGNATURE_AT, SIGNATURE_BYTES);
 }
 
@@ -195,13 +204,15 @@ fn judge(
     requires { ⌜ (at + 40 ≤ length (now code)) × (112 * checks + 112 ≤ length (now out)) × (price + 8 ≤ length (now witness)) × (time + 8 ≤ length (now witness)) × (signature + 64 ≤ length (now witness)) ⌝ }
     ensures { λ r. ⌜ ((ends : List ℕ) (left : ℕ) → Gives (afterSignature (keyAt (now (code .entry)) at) (timeAt (now (code .entry)) at) (take 8 (drop price (now (witness .entry)))) (take 8 (drop time (now (witness .entry)))) (take 64 (drop signature (now (witness .entry))))) (now (witness .entry)) ends (now (out .entry)) (now (out .exit)) (record { left = left; checks = checks }) (r .value) (record { left = left; checks = r .checks })) ⌝ }
 {
-    if slices::read_le64(code, at + KEY_BYTES) < slices::read_le64(witness, time) {
+    let terminal_time = slices::read_le64(code, at + KEY_BYTES);
+    let witness_time = slices::read_le64(witness, time);
+    if in_future(terminal_time, witness_time) {
         return Judged {
             value: Value::Refused(Refusal::TimestampInFuture),
             checks,
         };
     }
-    list_check(code, at, witness, price, signature, out, checks);
+    list_check(code, at, witness, time, price, signature, out, checks);
     Judged {
         value: price_value(slices::read_le64(witness, price)),
         checks: checks + 1,
