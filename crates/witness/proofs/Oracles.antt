@@ -18,7 +18,7 @@ use Rattle.witness.specs.declared.Judged.{Judged}
 use Rattle.witness.specs.declared.Place.{Place}
 use Rattle.witness.specs.declared.Witness.{Witness}
 use Rattle.witness.specs.Elements.{fewer, placed, popped, stateOf, takenPlace, takenWitness}
-use Rattle.witness.specs.Oracle.{Gives, Judges, Lies, Settles, afterPrice, afterSignature, afterTime, checkOf, keyAt, priced, timeAt}
+use Rattle.witness.specs.Oracle.{Gives, Judges, Lies, Settles, afterPrice, afterSignature, afterTime, keyAt, priced, timeAt}
 use Rattle.witness.proofs.Elements.{placeOutcome, pop-taken, taken-within}
 
 -- an element is popped on the way to an oracle terminal's value, and must have a width:
@@ -125,15 +125,12 @@ module _ (code : List ℕ) (at : ℕ) (w ends old : List ℕ) (sound : endsSound
     first h few (Place.Refused x) e g =
         rw (g .0, g .1) (pops-refused w ends old sound h few 8 Refusal.MissingPrice Refusal.Price8BytePush (afterPrice key time) x e)
 
--- the terminal's time
+-- the terminal's key and time
+pub key-is : (code : List ℕ) (at : ℕ) → keyAt code at ≡ take 32 (drop at code)
+key-is code at = take-take 32 40 (drop at code) (omega arith)
+
 time-is : (code : List ℕ) (at t : ℕ) → Read64 code (at + 32) t → timeAt code at ≡ t
 time-is code at t r = ap bytesValue (time-at code at) ∙ sym (r .value)
-
--- the check is key, the witness time, price, signature
-check-is : (code : List ℕ) (at : ℕ) (w : List ℕ) (t p q : ℕ)
-    → checkBytes (keyAt code at) (take 8 (drop t w)) (take 8 (drop p w)) (take 64 (drop q w)) ≡ checkOf code at w t p q
-unfolding checkOf
-check-is code at w t p q = rw (take-take 32 40 (drop at code) (omega arith)) (simp append-assoc)
 
 -- four copies, one behind the other
 grown : (x d s : List ℕ) (b m : ℕ) → length x ≡ b → paste (x ++ drop b d) b s m ≡ x ++ take m s ++ drop (b + m) d
@@ -144,7 +141,7 @@ grown x d s b m e =
 
 pub four-copies : (d a b c e : List ℕ) (o : ℕ) → o ≤ length d → 32 ≤ length a → 8 ≤ length b → 8 ≤ length c
     → paste (paste (paste (paste d o a 32) (o + 32) b 8) (o + 40) c 8) (o + 48) e 64
-    ≡ take o d ++ (take 32 a ++ (take 8 b ++ (take 8 c ++ take 64 e))) ++ drop (o + 112) d
+    ≡ take o d ++ checkBytes (take 32 a) (take 8 b) (take 8 c) (take 64 e) ++ drop (o + 112) d
 four-copies d a b c e o h k l m =
     let d₁ = take o d ++ take 32 a in
     let d₂ = d₁ ++ take 8 b in
@@ -185,16 +182,15 @@ module _ (code : List ℕ) (at : ℕ) (w ends old : List ℕ) (p t q left checks
   module _ (room : 112 * checks + 112 ≤ length old) (operands : at + 40 ≤ length code) (price : p + 8 ≤ length w) (witnessTime : t + 8 ≤ length w)
       (signature : q + 64 ≤ length w) (intime : inFuture time (bytesValue (take 8 (drop t w))) ≡ false) where
     abbrev check : List ℕ
-    check = checkOf code at w t p q
+    check = checkBytes (keyAt code at) (take 8 (drop t w)) (take 8 (drop p w)) (take 64 (drop q w))
 
     abbrev new : List ℕ
     new = take (112 * checks) old ++ check ++ drop (112 * checks + 112) old
 
     check-length : length check ≡ 112
-    unfolding checkOf
     check-length =
         let k = part-length code at 32 (omega (arith, operands)) in
-        simp length-append (omega (arith, k, part-length w t 8 witnessTime, part-length w p 8 price, part-length w q 64 signature))
+        rw (key-is code at) (simp length-append (omega (arith, k, part-length w t 8 witnessTime, part-length w p 8 price, part-length w q 64 signature)))
 
     front-length : length (take (112 * checks) old ++ check) ≡ 112 * (checks + 1)
     front-length = length-append (take (112 * checks) old) check ∙ omega (arith, length-take-le (112 * checks) old (omega arith), check-length)
@@ -214,7 +210,6 @@ module _ (code : List ℕ) (at : ℕ) (w ends old : List ℕ) (p t q left checks
           gives =
               rw (
                 time-is code at time terminal,
-                check-is code at w t p q,
                 intime,
                 ← e,
                 is,

@@ -41,10 +41,6 @@ keyAt code at = take 32 (take 40 (drop at code))
 abbrev pub timeAt : List ℕ → ℕ → ℕ
 timeAt code at = bytesValue (drop 32 (take 40 (drop at code)))
 
--- the check: the terminal's key, then time, price and signature, which stand at t, p and q in the witness
-unfoldable pub checkOf : List ℕ → ℕ → List ℕ → ℕ → ℕ → ℕ → List ℕ
-checkOf code at witness t p q = take 32 (drop at code) ++ (take 8 (drop t witness) ++ (take 8 (drop p witness) ++ take 64 (drop q witness)))
-
 -- what an oracle terminal may go by
 pub record Asks (code : List ℕ) (at : ℕ) (witness ends out : List ℕ) (h : Witness) : Type 0 where
   pub operands : at + 40 ≤ length code

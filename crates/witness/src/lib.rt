@@ -7,9 +7,9 @@ ghost use mathlib.Core.List.{List, _++_};
 ghost use Prim.Native.Nat.{ℕ, _+_, _-_, _*_, _≤_, _<_};
 ghost use lib.ListN.{length, take, drop};
 ghost use Rattle.semantics.specs.Evaluate.{endsSound};
-ghost use Rattle.semantics.specs.Evaluation.{inFuture, oracle};
+ghost use Rattle.semantics.specs.Evaluation.{checkBytes, inFuture, oracle};
 ghost use Rattle.witness.specs.Elements.{fewer, placed, popped, takenPlace, takenWitness};
-ghost use Rattle.witness.specs.Oracle.{Asks, Gives, Judges, Settles, afterSignature, checkOf, keyAt, priced, timeAt};
+ghost use Rattle.witness.specs.Oracle.{Asks, Gives, Judges, Settles, afterSignature, keyAt, priced, timeAt};
 
 // The parts of a check: the terminal's key, and time, price and signature of the witness.
 const KEY_BYTES: usize = 32;
@@ -168,7 +168,7 @@ fn list_check(
     n: usize,
 )
     requires { ⌜ (at + 40 ≤ length (now code)) × (time + 8 ≤ length (now witness)) × (price + 8 ≤ length (now witness)) × (signature + 64 ≤ length (now witness)) × (112 * n + 112 ≤ length (now out)) ⌝ }
-    ensures { λ _. ⌜ now (out .exit) ≡ take (112 * n) (now (out .entry)) ++ checkOf (now (code .entry)) at (now (witness .entry)) time price signature ++ drop (112 * n + 112) (now (out .entry)) ⌝ }
+    ensures { λ _. ⌜ now (out .exit) ≡ take (112 * n) (now (out .entry)) ++ checkBytes (keyAt (now (code .entry)) at) (take 8 (drop time (now (witness .entry)))) (take 8 (drop price (now (witness .entry)))) (take 64 (drop signature (now (witness .entry)))) ++ drop (112 * n + 112) (now (out .entry)) ⌝ }
 {
     let off = CHECK_BYTES * n;
     slices::copy(code, at, out, off, KEY_BYTES);
