@@ -132,7 +132,7 @@ key-is code at = take-take 32 40 (drop at code) (omega arith)
 time-is : (code : List ℕ) (at t : ℕ) → Read64 code (at + 32) t → timeAt code at ≡ t
 time-is code at t r = ap bytesValue (time-at code at) ∙ sym (r .value)
 
--- four copies, one behind the other
+-- copies, one behind the other
 grown : (x d s : List ℕ) (b m : ℕ) → length x ≡ b → paste (x ++ drop b d) b s m ≡ x ++ take m s ++ drop (b + m) d
 grown x d s b m e =
     let f : drop (b + m) (x ++ drop b d) ≡ drop (b + m) d =
@@ -167,9 +167,9 @@ module _ (code : List ℕ) (at : ℕ) (w ends old : List ℕ) (p t q left checks
   abbrev rest : State → Outcome ℤ
   rest = afterSignature (keyAt code at) (timeAt code at) (take 8 (drop p w)) (take 8 (drop t w)) (take 64 (drop q w))
 
-  pub judged-late : inFuture time (bytesValue (take 8 (drop t w))) ≡ true
+  pub judged-in-future : inFuture time (bytesValue (take 8 (drop t w))) ≡ true
       → Gives rest w ends old old (record { left = left; checks = checks }) (Value.Refused Refusal.TimestampInFuture) (record { left = left; checks = checks })
-  judged-late h =
+  judged-in-future h =
       record {
         gives = rw (time-is code at time terminal, h);
         fewer = omega arith;

@@ -1,7 +1,7 @@
--- The time's test, then the check and the price's value (`judged-late`, `judged-listed`).
+-- The time's test, then the check and the price's value (`judged-in-future`, `judged-listed`).
 use borrow.Author.Needs.{needs}
 use mathlib.Core.Path.{sym, _∙_}
-use Rattle.witness.proofs.Oracles.{judged-late, judged-listed}
+use Rattle.witness.proofs.Oracles.{judged-in-future, judged-listed}
 use Rattle.witness.proofs.judge.Statement.{statement}
 use Rattle.witness.proofs.judge.Tie as tie
 
@@ -9,7 +9,7 @@ returns : tie.Need-returns
 returns c ends left =
     let i = c .before in
     let a = i .before .before .before .before .before .before .args in
-    judged-late (a .code .now) (a .at) (a .witness .now) ends (a .out .now) (a .price) (a .time) (a .signature) left (a .checks) _
+    judged-in-future (a .code .now) (a .at) (a .witness .now) ends (a .out .now) (a .price) (a .time) (a .signature) left (a .checks) _
     (i .before .before .read-le64 .ensures) (rw (i .before .read-le642 .ensures .value) at (sym (i .in-future .ensures) ∙ c .if1 .taken))
 
 returns-2 : tie.Need-returns-2
