@@ -373,20 +373,11 @@ fn index_product() {
     write(b"    Write: Output(CurrIdx * 3) Eq 5", times_three);
 }
 
-// Not one of the thirteen: a quote's time is at least the terminal's, and its own time is what the check has (R-8).
+// Not one of the thirteen: a quote's time is at least the terminal's, here 5, and is what the check has (R-8).
 fn quotes() {
-    evaluate_quote(
-        b"    Evaluate: PriceOracle1 of time 5 Geq 9, quote of time 4",
-        4,
-    );
-    evaluate_quote(
-        b"    Evaluate: PriceOracle1 of time 5 Geq 9, quote of time 5",
-        5,
-    );
-    evaluate_quote(
-        b"    Evaluate: PriceOracle1 of time 5 Geq 9, quote of time 6",
-        6,
-    );
+    evaluate_quote(b"    Evaluate: PriceOracle1(5) Geq 9, quote of time 4", 4);
+    evaluate_quote(b"    Evaluate: PriceOracle1(5) Geq 9, quote of time 5", 5);
+    evaluate_quote(b"    Evaluate: PriceOracle1(5) Geq 9, quote of time 6", 6);
 }
 
 fn main() {
