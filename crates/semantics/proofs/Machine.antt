@@ -4,7 +4,7 @@ use mathlib.Core.Path.{_≡_, refl, sym, ap, _∙_}
 use mathlib.Core.List.{List, [], _∷_, _++_, append-assoc}
 use native.Mathlib.Omega.{arith}
 use lib.ListN.{length, length-append, getD, drop, drop-of-length-le, take}
-use lib.Seq.{drop-cons, drop-drop}
+use lib.Seq.{drop-cons, drop-drop, take-take}
 use Rattle.slices.specs.Bytes.{littleEndian}
 use Rattle.slices.proofs.Bytes.{drop-take, length-littleEndian}
 use Rattle.semantics.specs.Operations.{binRow, cmpRow, idxRow, listRow, unRow}
@@ -36,7 +36,10 @@ module _ {S : Type 0} (step : S → Command → List ℕ → S) where
 pub oracle-length : (key : List ℕ) (time : ℕ) → length key ≡ 32 → length (key ++ littleEndian 8 time) ≡ 40
 oracle-length key time h = rw (length-append, h, length-littleEndian 8 time)
 
--- the operand bytes of an oracle terminal that stand at `at`: the time comes after the key
+-- the operand bytes of an oracle terminal that stand at `at`: the key, and after it the time
+pub key-at : (code : List ℕ) (at : ℕ) → take 32 (take 40 (drop at code)) ≡ take 32 (drop at code)
+key-at code at = take-take 32 40 (drop at code) (omega arith)
+
 pub time-at : (code : List ℕ) (at : ℕ) → drop 32 (take 40 (drop at code)) ≡ take 8 (drop (at + 32) code)
 time-at code at = drop-take 32 8 (drop at code) ∙ ap (take 8) (drop-drop 32 at code)
 

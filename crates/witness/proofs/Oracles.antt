@@ -6,10 +6,11 @@ use mathlib.Core.List.{List, _++_, append-assoc}
 use native.Mathlib.Omega.{arith}
 use lib.Dec.{ltb}
 use lib.IntN.{ℤ, pos}
-use lib.ListN.{length, take, drop, length-append, length-drop}
-use lib.Seq.{drop-at, drop-drop, length-paste-head, length-take-le, paste, take-at, take-take}
+use lib.ListN.{length, take, drop, length-append}
+use lib.Seq.{drop-at, drop-drop, length-paste-head, length-take-le, paste, take-at}
 use Rattle.slices.specs.Bytes.{Read64, bytesValue}
-use Rattle.semantics.proofs.Machine.{time-at}
+use Rattle.slices.proofs.Bytes.{part-length}
+use Rattle.semantics.proofs.Machine.{key-at, time-at}
 use Rattle.semantics.specs.declared.Refusal.{Refusal}
 use Rattle.semantics.specs.declared.Value.{Value}
 use Rattle.semantics.specs.Evaluate.{endsSound}
@@ -125,10 +126,7 @@ module _ (code : List ℕ) (at : ℕ) (w ends old : List ℕ) (sound : endsSound
     first h few (Place.Refused x) e g =
         rw (g .0, g .1) (pops-refused w ends old sound h few 8 Refusal.MissingPrice Refusal.Price8BytePush (afterPrice key time) x e)
 
--- the terminal's key and time
-pub key-is : (code : List ℕ) (at : ℕ) → keyAt code at ≡ take 32 (drop at code)
-key-is code at = take-take 32 40 (drop at code) (omega arith)
-
+-- the terminal's time
 time-is : (code : List ℕ) (at t : ℕ) → Read64 code (at + 32) t → timeAt code at ≡ t
 time-is code at t r = ap bytesValue (time-at code at) ∙ sym (r .value)
 
@@ -159,9 +157,6 @@ priced-outcome : (n : ℕ) (st : State) (b : Bool)
 priced-outcome n st true = refl
 priced-outcome n st false = refl
 
-part-length : (s : List ℕ) (at k : ℕ) → at + k ≤ length s → length (take k (drop at s)) ≡ k
-part-length s at k h = length-take-le k (drop at s) (rw length-drop (omega arith))
-
 -- after the three pops: the time at t, the price at p and the signature at q
 module _ (code : List ℕ) (at : ℕ) (w ends old : List ℕ) (p t q left checks time : ℕ) (terminal : Read64 code (at + 32) time) where
   abbrev rest : State → Outcome ℤ
@@ -190,7 +185,7 @@ module _ (code : List ℕ) (at : ℕ) (w ends old : List ℕ) (p t q left checks
     check-length : length check ≡ 112
     check-length =
         let k = part-length code at 32 (omega (arith, operands)) in
-        rw (key-is code at) (simp length-append (omega (arith, k, part-length w t 8 witnessTime, part-length w p 8 price, part-length w q 64 signature)))
+        rw (key-at code at) (simp length-append (omega (arith, k, part-length w t 8 witnessTime, part-length w p 8 price, part-length w q 64 signature)))
 
     front-length : length (take (112 * checks) old ++ check) ≡ 112 * (checks + 1)
     front-length = length-append (take (112 * checks) old) check ∙ omega (arith, length-take-le (112 * checks) old (omega arith), check-length)

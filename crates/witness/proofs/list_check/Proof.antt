@@ -3,7 +3,8 @@ use borrow.Author.Needs.{needs}
 use Prim.Native.Nat.{_*_, _≤_}
 use native.Mathlib.Omega.{arith}
 use lib.ListN.{length, drop, length-drop}
-use Rattle.witness.proofs.Oracles.{four-copies, key-is}
+use Rattle.semantics.proofs.Machine.{key-at}
+use Rattle.witness.proofs.Oracles.{four-copies}
 use Rattle.witness.proofs.list_check.Statement.{statement}
 use Rattle.witness.proofs.list_check.Tie as tie
 
@@ -15,7 +16,7 @@ returns c =
     let p : 32 ≤ length (drop (a .at) (a .code .now)) = rw length-drop (omega arith) in
     let s : 8 ≤ length (drop (a .time) (a .witness .now)) = rw length-drop (omega arith) in
     let q : 8 ≤ length (drop (a .price) (a .witness .now)) = rw length-drop (omega arith) in
-    rw (c .before .before .copy4 .ensures, d .copy3 .ensures, d .before .before .before .before .copy2 .ensures, b .copy .ensures, key-is (a .code .now) (a .at))
+    rw (c .before .before .copy4 .ensures, d .copy3 .ensures, d .before .before .before .before .copy2 .ensures, b .copy .ensures, key-at (a .code .now) (a .at))
     (four-copies (a .out .now) (drop (a .at) (a .code .now)) (drop (a .time) (a .witness .now)) (drop (a .price) (a .witness .now)) (drop (a .signature) (a .witness .now)) (112 * a .n) (omega arith) p s q)
 
 pub list-check-spec : {M : Type 1} → statement M
