@@ -59,7 +59,9 @@ covenant_checked covenant_check(const uint8_t *code, size_t code_count);
  * little-endian. The host verifies all checks that are listed, after a refusal too; the verdict counts only if all hold. A check holds if its signature is one of BIP 340, with
  * its key, over the SHA-256 of its bytes 32 to 47 (time, then price; no tag); a key that is not the x coordinate of a point is a check that failed. Where one
  * fails the script fails on chain.
- * Refusals 1 to 5, 8, 12, 7, then 20 to 41 in evaluation order. `verdict` is 1 for true, 0 for false. The first 112 * `checks` bytes of the buffer are written, after a
+ * Index values are signed, as on chain. Each lies from -(2^31 - 1) to 2^31 - 1, the current index where the condition uses it included, else 41; division is Euclidean, by 0
+ * it is 41. A lookup at an index below 0 is 43, without data.
+ * Refusals 1 to 5, 8, 12, 7, then 20 to 41 and 43 in evaluation order. `verdict` is 1 for true, 0 for false. The first 112 * `checks` bytes of the buffer are written, after a
  * refusal too, and no byte after them. */
 covenant_evaluated covenant_evaluate(
     const uint8_t *code, size_t code_count,

@@ -61,7 +61,7 @@ static void evaluate(void) {
     uint8_t empty[1] = {0};
     uint32_t no_ends[1] = {0};
     a = AT(less_one, 0, empty, no_ends, 0, empty, 0);
-    expect(a.number == 41 && a.verdict == 0 && a.checks == 0 && a.left == 0, "evaluate: current index less one at 0");
+    expect(a.number == 43 && a.verdict == 0 && a.first == 0 && a.second == 0 && a.checks == 0 && a.left == 0, "evaluate: current index less one at 0");
     a = AT(less_one, 1, empty, no_ends, 0, empty, 0);
     expect(a.number == 0 && a.verdict == 1, "evaluate: current index less one at 1");
     a = AT(less_one, 5, empty, no_ends, 0, empty, 0);

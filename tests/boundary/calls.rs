@@ -15,7 +15,7 @@ fn main() {
     let lists = [list(&[7, 8], 1), list(&[], 1), list(&[0, 0], 0), list(&[0, 0], 0)];
     let less_one = [2, 1, 1, 0, 0, 0, 0, 0, 0, 0, 4, 18, 16, 7, 0, 0, 0, 0, 0, 0, 0, 48];
     let at = |current| covenant::evaluate(&less_one, &lists, current, &[], &[], &mut []);
-    assert_eq!((at(0).number, at(0).verdict), (41, 0));
+    assert_eq!((at(0).number, at(0).verdict), (43, 0));
     assert_eq!((at(1).number, at(1).verdict), (0, 1));
     assert_eq!((at(9).number, at(9).first, at(9).second), (20, 8, 2));
 

@@ -70,7 +70,6 @@ fn run() -> i32 {
     let sample = args[0] == "sample";
     let at = sample as usize;
     let (seed, count) = (args[at].parse().expect("seed"), args[at + 1].parse().expect("count"));
-    published::print_no_trap_of_eval();
     let mut tally: BTreeMap<(String, String), u64> = BTreeMap::new();
     let mut parts: BTreeMap<(String, &str), u64> = BTreeMap::new();
     let mut differs: Option<String> = None;

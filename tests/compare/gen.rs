@@ -58,8 +58,15 @@ fn oracle(r: &mut Random, c: u8, out: &mut Vec<u8>) {
     out.extend(r.time(8).to_le_bytes());
 }
 
-/// Its constants have a form unless `wide` holds.
-fn index(r: &mut Random, size: usize, wide: bool, out: &mut Vec<u8>) {
+/// What the index expressions of a case are: any at all; with constants that have a form; or such that at this current index the Rust is the comparison.
+#[derive(Clone, Copy)]
+enum Indexes {
+    Any,
+    Formed,
+    Compared(u64),
+}
+
+fn index(r: &mut Random, size: usize, indexes: Indexes, out: &mut Vec<u8>) {
     if size < 2 {
         if r.below(3) == 0 {
             return out.push(2);
@@ -67,30 +74,40 @@ fn index(r: &mut Random, size: usize, wide: bool, out: &mut Vec<u8>) {
         out.push(1);
         let n = match r.below(16) {
             0 => r.of(&[16, 17, 127, 128, 255, 256, 32767, 32768, NARROW]),
-            1 if wide => r.wide(NARROW + 1),
+            1 if matches!(indexes, Indexes::Any) => r.wide(NARROW + 1),
             1 => r.next() % (NARROW + 1),
             _ => r.below(4) as u64,
         };
         return out.extend(n.to_le_bytes());
     }
     let left = r.below(size);
-    index(r, left, wide, out);
-    index(r, size - 1 - left, wide, out);
+    index(r, left, indexes, out);
+    index(r, size - 1 - left, indexes, out);
     out.push(r.of(&[3, 3, 4, 5, 6]));
 }
 
+fn looked_up(r: &mut Random, indexes: Indexes) -> Vec<u8> {
+    loop {
+        let (mut out, n) = (vec![], r.below(4));
+        index(r, n, indexes, &mut out);
+        match indexes {
+            Indexes::Compared(current) if !compared(&out, current) => continue,
+            _ => return out,
+        }
+    }
+}
+
 /// A value of about `size` operations. Its first terminal is the condition's first where `first` holds.
-fn value(r: &mut Random, size: usize, first: bool, wide: bool, out: &mut Vec<u8>) {
+fn value(r: &mut Random, size: usize, first: bool, indexes: Indexes, out: &mut Vec<u8>) {
     if size < 2 {
         return match r.below(10) {
             0..=3 => {
                 out.push(16);
                 out.extend(r.value().to_le_bytes())
             }
-            4 => out.push(17),
-            5..=7 => {
-                let n = r.below(4);
-                index(r, n, wide, out);
+            4 if !matches!(indexes, Indexes::Compared(current) if !compared(&[2], current)) => out.push(17),
+            4..=7 => {
+                out.extend(looked_up(r, indexes));
                 out.push(r.of(&[18, 18, 19, 19, 20, 21]))
             }
             _ => {
@@ -101,24 +118,24 @@ fn value(r: &mut Random, size: usize, first: bool, wide: bool, out: &mut Vec<u8>
         };
     }
     if r.below(5) == 0 {
-        value(r, size - 1, first, wide, out);
+        value(r, size - 1, first, indexes, out);
         return out.push(r.of(&[30, 31]));
     }
     let left = r.below(size);
-    value(r, left, first, wide, out);
-    value(r, size - 1 - left, false, wide, out);
+    value(r, left, first, indexes, out);
+    value(r, size - 1 - left, false, indexes, out);
     out.push(r.of(&[22, 22, 23, 23, 24, 25, 26, 27, 28, 29]));
 }
 
-fn condition(r: &mut Random, wide: bool) -> Vec<u8> {
+fn condition(r: &mut Random, indexes: Indexes) -> Vec<u8> {
     let mut out = vec![];
     let (left, right) = match r.below(64) {
         0 => (r.below(200), r.below(200)),
         1..=8 => (r.below(40), r.below(40)),
         _ => (r.below(6), r.below(4)),
     };
-    value(r, left, true, wide, &mut out);
-    value(r, right, false, wide, &mut out);
+    value(r, left, true, indexes, &mut out);
+    value(r, right, false, indexes, &mut out);
     out.push(48 + r.below(5) as u8);
     out
 }
@@ -190,7 +207,7 @@ fn index_constants(all: &[Record]) -> Vec<usize> {
 /// A token list: a form, with any index constants of 32 bits and other tokens before it, and often changed a little.
 fn tokens(r: &mut Random) -> Vec<Record> {
     let mut all: Vec<Record> = (0..r.of(&[0, 0, 1, 2, 5, 14])).map(|_| any(r)).collect();
-    let c = condition(r, false);
+    let c = condition(r, Indexes::Formed);
     all.extend(form(&c).unwrap_or_default());
     for at in index_constants(&all) {
         if r.below(4) == 0 {
@@ -221,11 +238,10 @@ fn tokens(r: &mut Random) -> Vec<Record> {
 pub fn cases(seed: u64, count: usize, mut emit: impl FnMut(String)) {
     let mut r = Random(seed);
     for n in 0..count {
-        // Write's bytes are read back by `lex`
-        let c = condition(&mut r, !matches!(n % 8, 1 | 2));
         emit(match n % 8 {
-            0 => format!("C {}", hex(&c)),
-            1 | 2 => format!("W {}", hex(&c)),
+            0 => format!("C {}", hex(&condition(&mut r, Indexes::Any))),
+            // Write's bytes are read back by `lex`
+            1 | 2 => format!("W {}", hex(&condition(&mut r, Indexes::Formed))),
             3 | 4 => {
                 let all: Vec<String> = tokens(&mut r).iter().map(spell).collect();
                 format!("D {}", if all.is_empty() { "-".into() } else { all.join(",") })
@@ -233,6 +249,7 @@ pub fn cases(seed: u64, count: usize, mut emit: impl FnMut(String)) {
             _ => {
                 let (inputs, outputs) = (r.below(5), r.below(5));
                 let at = if r.below(16) > 0 { r.below(inputs + 2) as u64 } else { r.wide(5) };
+                let c = condition(&mut r, Indexes::Compared(at));
                 let (s, o, i, k) = (amounts(&mut r, inputs), amounts(&mut r, outputs), amounts(&mut r, inputs), amounts(&mut r, inputs));
                 let w = witness(&mut r, &times(&c));
                 format!("E {} {at} {s} {o} {i} {k} {w}", hex(&c))

@@ -10,8 +10,6 @@ use elements::{AssetIssuance, Transaction, TxIn, TxOut};
 use elements_miniscript::extensions::{EvalError, ParseableExt, TxEnv};
 use elements_miniscript::interpreter::{Element, Stack};
 use elements_miniscript::miniscript::lex::{lex, TokenIter};
-use std::panic::{catch_unwind, set_hook, take_hook, AssertUnwindSafe};
-use std::sync::atomic::{AtomicBool, Ordering::Relaxed};
 
 pub fn hex(b: &[u8]) -> String {
     if b.is_empty() {
@@ -66,18 +64,6 @@ fn numbers(e: &EvalError) -> (u64, u64, u64) {
     }
 }
 
-/// Whether a trap is an answer, and not to be printed.
-static EVALUATING: AtomicBool = AtomicBool::new(false);
-
-pub fn print_no_trap_of_eval() {
-    let print = take_hook();
-    set_hook(Box::new(move |p| {
-        if !EVALUATING.load(Relaxed) {
-            print(p)
-        }
-    }));
-}
-
 pub fn evaluate(f: &[&str]) -> String {
     let c = match tree(&unhex(f[1])) {
         Ok(c) => c,
@@ -92,14 +78,9 @@ pub fn evaluate(f: &[&str]) -> String {
     let elements = list(f[7], unhex);
     let mut stack = Stack::from(elements.iter().map(Element::from).collect::<Vec<_>>());
     bitcoin::forget();
-    // An index step that leaves its range, or divides by 0, traps: document 01's 41.
-    EVALUATING.store(true, Relaxed);
-    let answer = catch_unwind(AssertUnwindSafe(|| c.eval(&env, &mut stack)));
-    EVALUATING.store(false, Relaxed);
-    let (n, a, b, verdict) = match answer {
-        Err(_) => (41, 0, 0, 0),
-        Ok(Ok(v)) => (0, 0, 0, v as u8),
-        Ok(Err(e)) => {
+    let (n, a, b, verdict) = match c.eval(&env, &mut stack) {
+        Ok(v) => (0, 0, 0, v as u8),
+        Err(e) => {
             let (n, a, b) = numbers(&e);
             (n, a, b, 0)
         }

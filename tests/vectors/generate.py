@@ -17,8 +17,10 @@ import sys
 import threading
 from collections import Counter
 
+import indexes
 import model
 import orders
+import script_numbers
 from conditions import DIVIDENDS, DIVISORS, EDGES, GREATEST, INDEX_EDGES, LEAST, TIMES, codes, condition, const, inverts, rng, rule_broken, sized
 from model import BYTES8, BYTES32, MAX_CODE, MAX_ORACLES, MAX_TOKENS, NUM, code_of, form
 from orders import FIVE, KEY, NO_MARK, ONE_INPUT
@@ -118,13 +120,31 @@ def lend(elements):
     return b"".join(elements) + extra, ends
 
 
+def lookups(t):
+    """The index expressions of a condition."""
+    if t[0] in (16, 17, 32, 33):
+        return [(2,)] if t[0] == 17 else []
+    return [t[1]] if 18 <= t[0] <= 21 else [i for x in t[1:] for i in lookups(x)]
+
+
+def agreed(i, current):
+    """Fails where the model's index is not that of the script."""
+    try:
+        n = model.Evaluation([], current, []).index(i)
+    except model.Refused:
+        n = -1
+    told(n if n >= 0 else None, script_numbers.index(form(i), current))
+
+
 def evaluate(code, lists=None, current=None, lent=None, room=None):
     try:
         t = model.parse(code) if len(code) <= MAX_CODE else None
     except model.Refused:
         t = None
     lists = lists or environment()
-    current = rng.choice([0, 0, 1, 1, 2, 3, len(lists[0][0]), 2**64 - 1]) if current is None else current
+    current = rng.choice([0, 0, 1, 1, 2, 3, len(lists[0][0]), rng.choice(INDEX_EDGES)]) if current is None else current
+    for i in lookups(t) if t else []:
+        agreed(i, current)
     witness, ends = lend(witness_for(t) if t else [b"x"] * rng.randrange(3)) if lent is None else lent
     need = 112 * model.oracles(t) if t else 0
     room = max(need + rng.choice([0, 0, 0, 0, 0, 0, 5, -1]), 0) if room is None else room
@@ -144,9 +164,6 @@ def evaluations():
         evaluate(code_of(condition(4)))
     for _ in range(1200):  # oracle terminals on every side
         evaluate(code_of(condition(3, "oobuc")))
-    less_one = lambda: (18, (4, (2,), (1, 1)))  # the incident: the amount at the current index less one
-    for at in (0, 1):
-        evaluate(code_of((48, less_one(), const(7))), [([7, 8], [1, 1]), ([], []), ([0, 0], [0, 0]), ([0, 0], [0, 0])], at)
     for c in (18, 19, 20, 21):  # every list at every place, explicit and not, and beyond
         for i in range(4):
             for mark in (0, 1):
@@ -357,7 +374,11 @@ def evaluation_examples():
     told_evaluation(30, equals_five((25, NINE, const(0))))
     told_evaluation(31, equals_five((26, NINE, const(0))))
     told_evaluation(32, equals_five((31, const(LEAST))))
-    told_evaluation(41, at(18, (4, (2,), (1, 1))))
+    told_evaluation(41, at(18, (6, (2,), (1, 0))))
+    less_one = (4, (2,), (1, 1))  # the incident, and the desk that goes on from there
+    told_evaluation(43, at(18, less_one))
+    for current, i, answer in ((0, less_one, (43, 0)), (1, less_one, (0, 1)), (0, (3, less_one, (1, 2)), (0, 1))):
+        told(evaluate(code_of((48, (18, i), const(7))), [([7, 7], [1, 1])] * 4, current, (b"", []), 0)[:2], answer)
 
 
 def oracle_examples():
@@ -391,6 +412,16 @@ def quotes():
         (34, [SIGNATURE, EARLY, bytes(7)]), (37, [EARLY, PRICE]), (38, [bytes(63), EARLY, PRICE]), (38, [bytes(65), EARLY, PRICE]), (39, [SIGNATURE, EARLY, bytes([255] * 8)]),
     ):
         told_evaluation(number, equals_five((32, KEY, 5)), lent=elements(*es))
+
+
+def indexed():
+    """R-4: indexes at the edges; a check that was listed before 43 stays, and what stands after it is not looked at."""
+    for t, lists, current, answer in indexes.cases():
+        wanted = (0, 1, 0, 0) if answer == 1 else (answer[0], 0, *answer[1:])
+        told(evaluate(code_of(t), lists, current, (b"", []), 0), (*wanted, 0, 0, b""))
+    quote, negative = elements(SIGNATURE, EXACT, PRICE), (18, indexes.below(1))
+    told(evaluate(equals_five((22, (32, KEY, 5), negative)), ONE_INPUT, 0, quote, 112), (43, 0, 0, 0, 1, 0, KEY + EXACT + PRICE + SIGNATURE))
+    told(evaluate(equals_five((22, negative, (33, KEY, 5))), ONE_INPUT, 0, quote, 112), (43, 0, 0, 0, 0, 3, b""))
 
 
 def decoding_examples():
@@ -510,6 +541,7 @@ def main():
         check(c)
     evaluations()
     quotes()
+    indexed()
     for c in codes():
         write(c)
     for _ in range(900):

@@ -3,6 +3,7 @@ with trees, whole numbers and a reader that tries every production at every plac
 
 MAX_CODE, MAX_TOKENS = 9216, 1024
 MAX_ORACLES = 73  # follows from MAX_TOKENS, as include/covenant.h tells
+MOST_INDEX = 2**31 - 1
 
 # kinds of tokens
 (OTHER, NUM, BYTES8, BYTES32, CURR_INP, ADD, SUB, TO_LE64, TO_NUM, MUL64, DIV64, ADD64, SUB64, NEG64, EQUAL, VERIFY, NIP, DROP, AND, OR, XOR, INVERT,
@@ -190,13 +191,15 @@ class Evaluation:
             x, y = self.index(t[1]), self.index(t[2])
             if t[0] == 6 and y == 0:
                 raise Refused(41)
-            n = {3: lambda: x + y, 4: lambda: x - y, 5: lambda: x * y, 6: lambda: x // y}[t[0]]()
-        if not 0 <= n < 2**64:
+            n = {3: lambda: x + y, 4: lambda: x - y, 5: lambda: x * y, 6: lambda: quotient_and_remainder(x, y)[0]}[t[0]]()
+        if not -MOST_INDEX <= n <= MOST_INDEX:
             raise Refused(41)
         return n
 
     def amount(self, which, k, outside, hidden):
         numbers, marks = self.lists[which]
+        if k < 0:
+            raise Refused(43)
         if k >= len(numbers):
             raise Refused(outside, k, len(numbers))
         if marks[k] != 1:
@@ -227,7 +230,7 @@ class Evaluation:
         if c == 16:
             return signed(t[1])
         if c == 17:
-            return self.amount(0, self.current, 20, 21)
+            return self.amount(0, self.index((2,)), 20, 21)
         if 18 <= c <= 21:
             k = self.index(t[1])
             which, outside, hidden = {18: (0, 20, 21), 19: (1, 22, 23), 20: (2, 24, 25), 21: (3, 24, 26)}[c]

@@ -3,7 +3,7 @@ the case without the first one's fault, which must be answered with the second. 
 from conditions import const, inverts
 from model import MAX_CODE, MAX_TOKENS, code_of
 
-# "1 to 5 in every call that takes a condition; then 6 in Write; then 8, 12 in Evaluate; then 7. Decode: 10, 9, 7, 11." After these Evaluate's 20 to 41 are met, for which 41 stands.
+# "1 to 5 in every call that takes a condition; then 6 in Write; then 8, 12 in Evaluate; then 7. Decode: 10, 9, 7, 11." After these Evaluate's 20 to 41 and 43 are met, for which 41 stands.
 ORDER = {"Check": [1, 2, 3, 4, 5], "Evaluate": [1, 2, 3, 4, 5, 8, 12, 7, 41], "Write": [1, 2, 3, 4, 5, 6, 7], "Decode": [10, 9, 7, 11]}
 
 # Code that is not well formed has no tokens, terminals or index constants, nothing that room is needed for, and nothing to be evaluated.
@@ -38,9 +38,9 @@ def long_code(size, left=FIVE, right=FIVE):
 
 def condition_code(call, faults):
     """5 equals 5 with these faults. 4: the left side begins with PriceOracle1W. 5: PriceOracle1 stands further on there; 6: an index constant of 2^32; 41: the amount at the
-    current index less one; 7, for Evaluate: an oracle terminal. 1: Inverts up to a byte too many; 3: 1,022 Inverts. 2: a byte after the comparison."""
+    current index by 0; 7, for Evaluate: an oracle terminal. 1: Inverts up to a byte too many; 3: 1,022 Inverts. 2: a byte after the comparison."""
     left = (33, KEY, 5) if 4 in faults else FIVE
-    for fault, term in ((5, (32, KEY, 5)), (6, (18, (1, 2**32))), (41, (18, (4, (2,), (1, 1)))), (7, (33, KEY, 5) if call == "Evaluate" else None)):
+    for fault, term in ((5, (32, KEY, 5)), (6, (18, (1, 2**32))), (41, (18, (6, (2,), (1, 0)))), (7, (33, KEY, 5) if call == "Evaluate" else None)):
         if fault in faults and term:
             left = (22, left, term)
     code = long_code(MAX_CODE + 1, left) if 1 in faults else code_of((48, inverts(MAX_TOKENS - 2 if 3 in faults else 0, left), FIVE))

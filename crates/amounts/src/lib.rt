@@ -1,11 +1,12 @@
 // The amount lists: whether they are sound, and a lookup in one of them.
+use index64::Step;
 use semantics::AmountList;
 use semantics::Refusal;
 use semantics::Value;
 ghost use mathlib.Core.Path.{_≡_};
-ghost use mathlib.Core.Option.{some};
 ghost use Prim.Native.Nat.{ℕ};
 ghost use lib.IntN.{pos};
+ghost use Rattle.index64.specs.Steps.{stepped};
 ghost use Rattle.semantics.specs.Operations.{listRow};
 ghost use Rattle.semantics.specs.Evaluation.{amount, lookedUp};
 ghost use Rattle.semantics.specs.Evaluate.{areMarks, envSound, paired};
@@ -108,7 +109,7 @@ fn amount_at(list: AmountList, numbers: &[u64], marks: &[u8], i: u64) -> Value
     Value::Number(word64::signed(numbers[k]))
 }
 
-// The amount that a list has at i, whatever the current index.
+// The amount that a list has where an index step led, whatever the current index.
 pub fn looked_up(
     list: AmountList,
     spent: &[u64],
@@ -119,10 +120,17 @@ pub fn looked_up(
     issued_marks: &[u8],
     reissued: &[u64],
     reissued_marks: &[u8],
-    i: u64,
+    step: Step,
 ) -> Value
-    ensures { λ r. ⌜ ((current : ℕ) → r ≡ lookedUp (envOf (now (spent .entry)) (now («spent_marks» .entry)) (now (outputs .entry)) (now («output_marks» .entry)) (now (issued .entry)) (now («issued_marks» .entry)) (now (reissued .entry)) (now («reissued_marks» .entry)) current) list (some (pos i))) ⌝ }
+    ensures { λ r. ⌜ ((current : ℕ) → r ≡ lookedUp (envOf (now (spent .entry)) (now («spent_marks» .entry)) (now (outputs .entry)) (now («output_marks» .entry)) (now (issued .entry)) (now («issued_marks» .entry)) (now (reissued .entry)) (now («reissued_marks» .entry)) current) list (stepped step)) ⌝ }
 {
+    let Step::Value(index) = step else {
+        return Value::Refused(Refusal::IndexStep);
+    };
+    if index < 0 {
+        return Value::Refused(Refusal::NegativeIndex);
+    }
+    let i = word64::bits(index);
     match list {
         AmountList::Input => amount_at(list, spent, spent_marks, i),
         AmountList::Output => amount_at(list, outputs, output_marks, i),

@@ -76,6 +76,6 @@ bounded b n m size e h =
     record { last = a .last; walk = a .walk; tokens-are = a .tokens-are; few = a .few; room = omega (arith, a .oracles-are, h) }
 
 -- arrays of so many operands are enough
-pub bounded-fits : {code : List ℕ} {tokens : ℕ} {values : List ℤ} {indexes out : List ℕ} → Bounded code tokens (length out)
+pub bounded-fits : {code : List ℕ} {tokens : ℕ} {values indexes : List ℤ} {out : List ℕ} → Bounded code tokens (length out)
     → tokens ≤ length values → tokens ≤ length indexes → Fits code values indexes out
 bounded-fits b v i = record { last = b .last; walk = b .walk; values-fit = rw (b .tokens-are) v; indexes-fit = rw (b .tokens-are) i; room = b .room }

@@ -32,7 +32,7 @@ use Rattle.witness.specs.Elements.{stateOf}
 use Rattle.evaluation.specs.Run.{Answers, Fits}
 use Rattle.evaluation.proofs.Moves.{Moves, Supplied}
 use Rattle.slices.specs.Stack.{stackOf}
-use Rattle.stacks.specs.Stacks.{Ready, concluded, indexesIn, runOf, valuesIn}
+use Rattle.stacks.specs.Stacks.{Ready, concluded, runOf, waiting}
 use Rattle.witness.proofs.Elements.{left-count}
 use Rattle.slices.proofs.Stack.{length-stack}
 use Rattle.semantics.specs.Run.{Run, act, operand, pushIndex, pushValue, runStep}
@@ -118,7 +118,7 @@ module _ (code : List ℕ) (t : Summary) (at v i checks : ℕ) (a : Ahead code t
   below : v + i < t .tokens
   below = omega (arith, a .few, so-many .tokens, next-tokens command (a .here), some-token command v i met)
 
-  pub ahead-ready : (values : List ℤ) (indexes : List ℕ) → t .tokens ≤ length values → t .tokens ≤ length indexes → Ready command v i values indexes
+  pub ahead-ready : (values indexes : List ℤ) → t .tokens ≤ length values → t .tokens ≤ length indexes → Ready command v i values indexes
   ahead-ready values indexes p q = record { met = met; values-fit = omega (arith, p, below); indexes-fit = omega (arith, q, below) }
 
   listed : foldTerminals counted checks (terminalsOf command) ≤ t .oracles
@@ -174,7 +174,7 @@ kept-later j k new old h e =
     sym (d new) ∙ ap (drop (112 * (k - j))) e ∙ d old
 
 -- what the loop keeps: the run goes from here where it goes from the start
-pub record Loop (env : Env) (code witness ends out₀ out : List ℕ) (values : List ℤ) (indexes : List ℕ) (v i left checks at : ℕ) : Type 0 where
+pub record Loop (env : Env) (code witness ends out₀ out : List ℕ) (values indexes : List ℤ) (v i left checks at : ℕ) : Type 0 where
   pub last : Summary
   pub ahead : Ahead code last at v i checks
   pub values-fit : last .tokens ≤ length values
@@ -182,11 +182,11 @@ pub record Loop (env : Env) (code witness ends out₀ out : List ℕ) (values : 
   pub room : 112 * last .oracles ≤ length out
   pub few : left ≤ length ends
   pub kept : drop (112 * checks) out ≡ drop (112 * checks) out₀
-  pub runs : fold (runStep env) (Run.going (valuesIn values v) (indexesIn indexes i) (stateOf witness ends out left checks)) (instructions (drop at code))
+  pub runs : fold (runStep env) (Run.going (waiting values v) (waiting indexes i) (stateOf witness ends out left checks)) (instructions (drop at code))
       ≡ fold (runStep env) (Run.going [] [] (stateOf witness ends out₀ (length ends) 0)) (instructions code)
 
 module _ {env : Env} {code witness ends out₀ : List ℕ} where
-  pub loop-start : {values : List ℤ} {indexes : List ℕ} → Fits code values indexes out₀
+  pub loop-start : {values indexes : List ℤ} → Fits code values indexes out₀
       → Loop env code witness ends out₀ out₀ values indexes 0 0 (length ends) 0 0
   loop-start f =
       record {
@@ -200,7 +200,7 @@ module _ {env : Env} {code witness ends out₀ : List ℕ} where
         runs = refl;
       }
 
-  module _ {out : List ℕ} {values : List ℤ} {indexes : List ℕ} {v i left checks at : ℕ}
+  module _ {out : List ℕ} {values indexes : List ℤ} {v i left checks at : ℕ}
       (l : Loop env code witness ends out₀ out values indexes v i left checks at) where
     pub loop-inside : at < length code
     loop-inside = ahead-inside code (l .last) at v i checks (l .ahead)
@@ -212,10 +212,10 @@ module _ {env : Env} {code witness ends out₀ : List ℕ} where
     loop-supplied = ahead-supplied code (l .last) at v i checks (l .ahead) witness ends out left (l .room) (l .few)
 
     -- one turn of it, by what `step` promises
-    module _ {out′ : List ℕ} {left′ checks′ : ℕ} (values′ : List ℤ) (indexes′ : List ℕ) (turn : Turn)
+    module _ {out′ : List ℕ} {left′ checks′ : ℕ} (values′ indexes′ : List ℤ) (turn : Turn)
         (m : Moves (commandAt code at) left checks left′ checks′ out out′)
         (e : runOf values′ indexes′ (stateOf witness ends out′ left′ checks′) turn
-        ≡ act env (commandAt code at) (operandsAt code at) (valuesIn values v) (indexesIn indexes i) (stateOf witness ends out left checks))
+        ≡ act env (commandAt code at) (operandsAt code at) (waiting values v) (waiting indexes i) (stateOf witness ends out left checks))
         (same : length out′ ≡ length out) where
       kept-now : drop (112 * checks′) out′ ≡ drop (112 * checks′) out₀
       kept-now = m .kept ∙ kept-later checks checks′ out out₀ (m .more) (l .kept)
@@ -224,7 +224,7 @@ module _ {env : Env} {code witness ends out₀ : List ℕ} where
           ≡ fold (runStep env) (Run.going [] [] (stateOf witness ends out₀ (length ends) 0)) (instructions code)
       turned =
           ap (λ (r : Run). fold (runStep env) r (instructions (drop (after code at) code))) e
-          ∙ sym (fold-takes (runStep env) code at loop-inside (Run.going (valuesIn values v) (indexesIn indexes i) (stateOf witness ends out left checks)))
+          ∙ sym (fold-takes (runStep env) code at loop-inside (Run.going (waiting values v) (waiting indexes i) (stateOf witness ends out left checks)))
           ∙ l .runs
 
       pub loop-next : (v′ i′ : ℕ) → turn ≡ Turn.On v′ i′ → length values′ ≡ length values → length indexes′ ≡ length indexes
@@ -233,9 +233,9 @@ module _ {env : Env} {code witness ends out₀ : List ℕ} where
           record {
             last = l .last;
             ahead =
-                ahead-next code (l .last) at v i checks (l .ahead) env (operandsAt code at) (valuesIn values v) (indexesIn indexes i)
-                (stateOf witness ends out left checks) (stateOf witness ends out′ left′ checks′) (λ k. getD values′ k (pos 0)) (λ k. pos (getD indexes′ k 0))
-                v′ i′ checks′ (length-stack (λ k. getD values k (pos 0)) v) (length-stack (λ k. pos (getD indexes k 0)) i) (rw q at e) (m .counted-in);
+                ahead-next code (l .last) at v i checks (l .ahead) env (operandsAt code at) (waiting values v) (waiting indexes i)
+                (stateOf witness ends out left checks) (stateOf witness ends out′ left′ checks′) (λ k. getD values′ k (pos 0)) (λ k. getD indexes′ k (pos 0))
+                v′ i′ checks′ (length-stack (λ k. getD values k (pos 0)) v) (length-stack (λ k. getD indexes k (pos 0)) i) (rw q at e) (m .counted-in);
             values-fit = omega (arith, l .values-fit, x);
             indexes-fit = omega (arith, l .indexes-fit, y);
             room = omega (arith, l .room, same);

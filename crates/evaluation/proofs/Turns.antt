@@ -1,12 +1,13 @@
 -- What is kept between the turns of the loop, by what is next, and how much is left of the code.
-use Prim.Native.Nat.{ℕ, suc, _+_, _-_, _*_, _≤_, _<_, _^_}
-use mathlib.Core.Path.{_≡_, refl, sym, ap, _∙_}
+use Prim.Native.Nat.{ℕ, suc, _+_, _-_, _*_, _<_}
+use mathlib.Core.Path.{_≡_, refl, ap, _∙_}
 use mathlib.Core.Bool.{true}
 use mathlib.Core.List.{List, []}
-use mathlib.Core.Option.{some}
 use native.Mathlib.Omega.{arith}
-use lib.IntN.{ℤ, pos}
+use lib.IntN.{ℤ}
 use lib.ListN.{length, take, drop}
+use Rattle.index64.specs.declared.Step.{Step}
+use Rattle.index64.specs.Steps.{stepped}
 use Rattle.semantics.specs.declared.AmountList.{AmountList}
 use Rattle.semantics.specs.declared.Command.{Command}
 use Rattle.semantics.specs.declared.Value.{Value}
@@ -17,7 +18,7 @@ use Rattle.semantics.specs.Parse.{after, commandAt, fold, instructions, operand
 use Rattle.semantics.specs.Run.{Run, act, pushValue, runStep}
 use Rattle.stacks.specs.declared.Effect.{Effect}
 use Rattle.stacks.specs.declared.Turn.{Turn}
-use Rattle.stacks.specs.Stacks.{OracleOnly, effectOf, indexesIn, runOf, valuesIn}
+use Rattle.stacks.specs.Stacks.{OracleOnly, effectOf, runOf, waiting}
 use Rattle.witness.specs.declared.Witness.{Witness}
 use Rattle.witness.specs.Elements.{stateOf}
 use Rattle.witness.specs.Oracle.{Asks, Gives, keyAt, timeAt}
@@ -28,23 +29,23 @@ use Rattle.evaluation.proofs.Loop.{Loop, loop-ended, loop-inside, loop-
 use Rattle.evaluation.proofs.Moves.{Moves, oracle-asks, oracle-moves, oracle-width, rests}
 
 -- ---- what a turn of the callees is, as what is next
-pub fetched-turn : (env : Env) (code : List ℕ) (values : List ℤ) (indexes : List ℕ) (s : Spot) (values′ : List ℤ) (indexes′ : List ℕ) (t : Turn)
+pub fetched-turn : (env : Env) (code : List ℕ) (values indexes : List ℤ) (s : Spot) (values′ indexes′ : List ℤ) (t : Turn)
     → ((st : State) → runOf values′ indexes′ st t
-    ≡ act env (commandAt code (s .at)) (operandsAt code (s .at)) (valuesIn values (s .values)) (indexesIn indexes (s .indexes)) st)
+    ≡ act env (commandAt code (s .at)) (operandsAt code (s .at)) (waiting values (s .values)) (waiting indexes (s .indexes)) st)
     → Fetched env code values indexes s values′ indexes′ (nextOf (after code (s .at)) t)
 fetched-turn env code values indexes s values′ indexes′ (Turn.On v i) f = (refl, f)
 fetched-turn env code values indexes s values′ indexes′ (Turn.Ended r) f = f
 
 -- the same of the command that was told apart, by its effect
-module _ (env : Env) (code : List ℕ) (values : List ℤ) (indexes : List ℕ) (s : Spot) (values′ : List ℤ) (indexes′ : List ℕ) (command : Command)
+module _ (env : Env) (code : List ℕ) (values indexes : List ℤ) (s : Spot) (values′ indexes′ : List ℤ) (command : Command)
     (known : command ≡ commandAt code (s .at)) where
   abbrev bytes : List ℕ
   bytes = take (commandRow command .width) (drop (s .at + 1) code)
 
   abbrev done : State → Run
-  done st = act env command bytes (valuesIn values (s .values)) (indexesIn indexes (s .indexes)) st
+  done st = act env command bytes (waiting values (s .values)) (waiting indexes (s .indexes)) st
 
-  here : (st : State) → done st ≡ act env (commandAt code (s .at)) (operandsAt code (s .at)) (valuesIn values (s .values)) (indexesIn indexes (s .indexes)) st
+  here : (st : State) → done st ≡ act env (commandAt code (s .at)) (operandsAt code (s .at)) (waiting values (s .values)) (waiting indexes (s .indexes)) st
   here st = let one : s .at + 1 ≡ suc (s .at) = omega arith in rw (known, one)
 
   abbrev Effected : Effect → Type 0
@@ -55,9 +56,9 @@ module _ (env : Env) (code : List ℕ) (values : List ℤ) (indexes : List ℕ) 
       pub turned : e ≡ Effect.Turned t → Fetched env code values indexes s values′ indexes′ r
       turned p = rw (is, q, known) (fetched-turn env code values indexes s values′ indexes′ t (λ st. (rw p at (f st)) ∙ here st))
 
-      pub looked : (list : AmountList) (i rest : ℕ) → e ≡ Effect.Amount list i rest → (values″ : List ℤ)
+      pub looked : (list : AmountList) (i : Step) (rest : ℕ) → e ≡ Effect.Amount list i rest → (values″ : List ℤ)
           → ((st : State) → runOf values″ indexes′ st t
-          ≡ pushValue (valuesIn values′ (s .values)) (indexesIn indexes′ rest) (outcome (lookedUp env list (some (pos i))) st))
+          ≡ pushValue (waiting values′ (s .values)) (waiting indexes′ rest) (outcome (lookedUp env list (stepped i)) st))
           → Fetched env code values indexes s values″ indexes′ r
       looked list i rest p values″ g = rw (is, q, known) (fetched-turn env code values indexes s values″ indexes′ t (λ st. g st ∙ (rw p at (f st)) ∙ here st))
 
@@ -69,9 +70,9 @@ module _ (env : Env) (code : List ℕ) (values : List ℤ) (indexes : List ℕ) 
         (refl, refl, refl, rw known at oracular, λ st. (rw (p, width) at (f st)) ∙ (rw width at (here st)))
 
 -- ---- an oracle terminal waits for its price: where the loop stood before its command
-pub record Paused (env : Env) (code witness ends out₀ out : List ℕ) (values : List ℤ) (indexes : List ℕ) (h : Witness) (s : Spot) : Type 0 where
+pub record Paused (env : Env) (code witness ends out₀ out : List ℕ) (values indexes : List ℤ) (h : Witness) (s : Spot) : Type 0 where
   pub values₀ : List ℤ
-  pub indexes₀ : List ℕ
+  pub indexes₀ : List ℤ
   pub spot : Spot
   pub loop : Loop env code witness ends out₀ out values₀ indexes₀ (spot .values) (spot .indexes) (h .left) (h .checks) (spot .at)
   pub values-same : length values ≡ length values₀
@@ -79,11 +80,11 @@ pub record Paused (env : Env) (code witness ends out₀ out : List ℕ) (values 
   pub at-is : s .at ≡ spot .at + 1
   pub v-is : s .values ≡ spot .values
   pub oracular : Oracular (commandAt code (spot .at))
-  pub runs : (st : State) → pushValue (valuesIn values (s .values)) (indexesIn indexes (s .indexes)) (oracle (keyAt code (s .at)) (timeAt code (s .at)) st)
-      ≡ act env (commandAt code (spot .at)) (operandsAt code (spot .at)) (valuesIn values₀ (spot .values)) (indexesIn indexes₀ (spot .indexes)) st
+  pub runs : (st : State) → pushValue (waiting values (s .values)) (waiting indexes (s .indexes)) (oracle (keyAt code (s .at)) (timeAt code (s .at)) st)
+      ≡ act env (commandAt code (spot .at)) (operandsAt code (spot .at)) (waiting values₀ (spot .values)) (waiting indexes₀ (spot .indexes)) st
 
 module _ (env : Env) (code witness ends out₀ : List ℕ) where
-  abbrev pub Good : List ℕ → List ℤ → List ℕ → Witness → Next → Type 0
+  abbrev pub Good : List ℕ → List ℤ → List ℤ → Witness → Next → Type 0
   Good out values indexes h (Next.Command s) = Loop env code witness ends out₀ out values indexes (s .values) (s .indexes) (h .left) (h .checks) (s .at)
   Good out values indexes h (Next.Oracle s) = Paused env code witness ends out₀ out values indexes h s
   Good out values indexes h (Next.Ended r) =
@@ -96,16 +97,16 @@ module _ (env : Env) (code witness ends out₀ : List ℕ) where
   rank (Next.Oracle s) = 2 * (length code - s .at) + 2
   rank (Next.Ended r) = 0
 
-  pub good-start : (values : List ℤ) (indexes : List ℕ) → Fits code values indexes out₀
+  pub good-start : (values indexes : List ℤ) → Fits code values indexes out₀
       → Good out₀ values indexes (record { left = length ends; checks = 0 }) (Next.Command (record { at = 0; values = 0; indexes = 0 }))
   good-start values indexes f = loop-start f
 
-  module _ (sound : endsSound 0 (length witness) ends ≡ true) (out : List ℕ) (values : List ℤ) (indexes : List ℕ) (h : Witness) (s : Spot) where
+  module _ (sound : endsSound 0 (length witness) ends ≡ true) (out : List ℕ) (values indexes : List ℤ) (h : Witness) (s : Spot) where
     -- ---- a command
     pub fetches : Good out values indexes h (Next.Command s) → Fetches code values indexes s
     fetches l = record { inside = loop-inside l; operands = loop-supplied l sound .operands; ready = loop-ready l }
 
-    pub fetched-good : Good out values indexes h (Next.Command s) → (values′ : List ℤ) (indexes′ : List ℕ) → length values′ ≡ length values
+    pub fetched-good : Good out values indexes h (Next.Command s) → (values′ indexes′ : List ℤ) → length values′ ≡ length values
         → length indexes′ ≡ length indexes
         → (r : Next) → Fetched env code values indexes s values′ indexes′ r → Good out values′ indexes′ h r
     fetched-good l values′ indexes′ x y (Next.Command t) f =
@@ -129,7 +130,7 @@ module _ (env : Env) (code witness ends out₀ : List ℕ) where
         loop-ended l values′ indexes′ (Turn.Ended r) (rests (commandAt code (s .at)) (h .left) (h .checks) out)
         (f (stateOf witness ends out (h .left) (h .checks))) refl r refl
 
-    pub fetched-falls : Good out values indexes h (Next.Command s) → (values′ : List ℤ) (indexes′ : List ℕ) (r : Next)
+    pub fetched-falls : Good out values indexes h (Next.Command s) → (values′ indexes′ : List ℤ) (r : Next)
         → Fetched env code values indexes s values′ indexes′ r → rank r < rank (Next.Command s)
     fetched-falls l values′ indexes′ (Next.Command t) f = omega (arith, loop-inside l, f .0)
     fetched-falls l values′ indexes′ (Next.Oracle t) f = omega (arith, loop-inside l, f .0)
@@ -151,13 +152,13 @@ module _ (env : Env) (code witness ends out₀ : List ℕ) where
             (record { fewer = g .fewer; more = g .more; counted-in = g .one; kept = g .kept })
 
         acts : (t : Turn)
-            → ((st : State) → runOf values′ indexes st t ≡ pushValue (valuesIn values (s .values)) (indexesIn indexes (s .indexes)) (outcome price st))
+            → ((st : State) → runOf values′ indexes st t ≡ pushValue (waiting values (s .values)) (waiting indexes (s .indexes)) (outcome price st))
             → runOf values′ indexes (stateOf witness ends out′ (h′ .left) (h′ .checks)) t
-            ≡ act env (commandAt code (p .spot .at)) (operandsAt code (p .spot .at)) (valuesIn (p .values₀) (p .spot .values))
-            (indexesIn (p .indexes₀) (p .spot .indexes)) (stateOf witness ends out (h .left) (h .checks))
+            ≡ act env (commandAt code (p .spot .at)) (operandsAt code (p .spot .at)) (waiting (p .values₀) (p .spot .values))
+            (waiting (p .indexes₀) (p .spot .indexes)) (stateOf witness ends out (h .left) (h .checks))
         acts t f =
             f (stateOf witness ends out′ (h′ .left) (h′ .checks))
-            ∙ ap (λ (o : Outcome ℤ). pushValue (valuesIn values (s .values)) (indexesIn indexes (s .indexes)) o) (g .gives)
+            ∙ ap (λ (o : Outcome ℤ). pushValue (waiting values (s .values)) (waiting indexes (s .indexes)) o) (g .gives)
             ∙ p .runs (stateOf witness ends out (h .left) (h .checks))
 
         pub pushed-good : (r : Next) → Pushed s values values′ price r → Good out′ values′ indexes h′ r

@@ -16,7 +16,7 @@ use Rattle.semantics.specs.Evaluation.{Env, State, oracle, outcome}
 use Rattle.semantics.specs.Parse.{after, commandAt, operandsAt}
 use Rattle.semantics.specs.Run.{Run, act, pushValue}
 use Rattle.stacks.specs.declared.Turn.{Turn}
-use Rattle.stacks.specs.Stacks.{Ready, indexesIn, runOf, valuesIn}
+use Rattle.stacks.specs.Stacks.{Ready, runOf, waiting}
 use Rattle.witness.specs.Oracle.{keyAt, timeAt}
 use Rattle.evaluation.specs.declared.run.Next.{Next}
 use Rattle.evaluation.specs.declared.run.Spot.{Spot}
@@ -36,33 +36,33 @@ abbrev pub Oracular : Command → Type 0
 Oracular c = (c ≡ Command.PriceOracle1) ⊎ (c ≡ Command.PriceOracle1W)
 
 -- what the command at a spot goes by
-pub record Fetches (code : List ℕ) (values : List ℤ) (indexes : List ℕ) (s : Spot) : Type 0 where
+pub record Fetches (code : List ℕ) (values indexes : List ℤ) (s : Spot) : Type 0 where
   pub inside : s .at < length code
   pub operands : s .at + 1 + commandRow (commandAt code (s .at)) .width ≤ length code
   pub ready : Ready (commandAt code (s .at)) (s .values) (s .indexes) values indexes
 
 -- what it does, but for an oracle terminal, whose price is still to be pushed
-abbrev pub Fetched : Env → List ℕ → List ℤ → List ℕ → Spot → List ℤ → List ℕ → Next → Type 0
+abbrev pub Fetched : Env → List ℕ → List ℤ → List ℤ → Spot → List ℤ → List ℤ → Next → Type 0
 Fetched env code values indexes s values′ indexes′ (Next.Command t) =
     (t .at ≡ after code (s .at))
-    × ((st : State) → runOf values′ indexes′ st (Turn.On (t .values) (t .indexes)) ≡ act env (commandAt code (s .at)) (operandsAt code (s .at)) (valuesIn values (s .values)) (indexesIn indexes (s .indexes)) st)
+    × ((st : State) → runOf values′ indexes′ st (Turn.On (t .values) (t .indexes)) ≡ act env (commandAt code (s .at)) (operandsAt code (s .at)) (waiting values (s .values)) (waiting indexes (s .indexes)) st)
 Fetched env code values indexes s values′ indexes′ (Next.Oracle t) =
     (t .at ≡ s .at + 1) × (t .values ≡ s .values) × (t .indexes ≡ s .indexes) × Oracular (commandAt code (s .at))
-    × ((st : State) → pushValue (valuesIn values′ (t .values)) (indexesIn indexes′ (t .indexes)) (oracle (keyAt code (t .at)) (timeAt code (t .at)) st) ≡ act env (commandAt code (s .at)) (operandsAt code (s .at)) (valuesIn values (s .values)) (indexesIn indexes (s .indexes)) st)
+    × ((st : State) → pushValue (waiting values′ (t .values)) (waiting indexes′ (t .indexes)) (oracle (keyAt code (t .at)) (timeAt code (t .at)) st) ≡ act env (commandAt code (s .at)) (operandsAt code (s .at)) (waiting values (s .values)) (waiting indexes (s .indexes)) st)
 Fetched env code values indexes s values′ indexes′ (Next.Ended r) =
-    (st : State) → runOf values′ indexes′ st (Turn.Ended r) ≡ act env (commandAt code (s .at)) (operandsAt code (s .at)) (valuesIn values (s .values)) (indexesIn indexes (s .indexes)) st
+    (st : State) → runOf values′ indexes′ st (Turn.Ended r) ≡ act env (commandAt code (s .at)) (operandsAt code (s .at)) (waiting values (s .values)) (waiting indexes (s .indexes)) st
 
 -- a price is pushed, and the next command stands after key and time
 abbrev pub Pushed : Spot → List ℤ → List ℤ → Value → Next → Type 0
 Pushed s values values′ price (Next.Command t) =
     (t .at ≡ s .at + 40)
-    × ((indexes : List ℕ) (st : State) → runOf values′ indexes st (Turn.On (t .values) (t .indexes)) ≡ pushValue (valuesIn values (s .values)) (indexesIn indexes (s .indexes)) (outcome price st))
+    × ((indexes : List ℤ) (st : State) → runOf values′ indexes st (Turn.On (t .values) (t .indexes)) ≡ pushValue (waiting values (s .values)) (waiting indexes (s .indexes)) (outcome price st))
 Pushed s values values′ price (Next.Oracle t) = ⊥
 Pushed s values values′ price (Next.Ended r) =
-    (indexes : List ℕ) (st : State) → runOf values′ indexes st (Turn.Ended r) ≡ pushValue (valuesIn values (s .values)) (indexesIn indexes (s .indexes)) (outcome price st)
+    (indexes : List ℤ) (st : State) → runOf values′ indexes st (Turn.Ended r) ≡ pushValue (waiting values (s .values)) (waiting indexes (s .indexes)) (outcome price st)
 
 -- code that Check let pass, with room for what waits and for its checks
-pub record Fits (code : List ℕ) (values : List ℤ) (indexes out : List ℕ) : Type 0 where
+pub record Fits (code : List ℕ) (values indexes : List ℤ) (out : List ℕ) : Type 0 where
   pub last : Summary
   pub walk : walked code ≡ Walked.Ended last
   pub values-fit : last .tokens ≤ length values

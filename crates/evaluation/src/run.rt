@@ -11,21 +11,19 @@ use witness::Witness;
 ghost use mathlib.Core.Bool.{true};
 ghost use mathlib.Core.Path.{_≡_};
 ghost use mathlib.Core.List.{List, []};
-ghost use mathlib.Core.Option.{some};
 ghost use Prim.Native.Nat.{ℕ, _+_, _<_, _^_};
-ghost use lib.IntN.{pos};
-ghost use lib.ListN.{length, take, drop};
+ghost use lib.IntN.{ℤ};
+ghost use lib.ListN.{length};
+ghost use Rattle.index64.specs.Steps.{stepped};
 ghost use Rattle.semantics.specs.declared.Command.{Command};
-ghost use Rattle.semantics.specs.Code.{commandRow};
-ghost use Rattle.semantics.specs.Evaluation.{State, lookedUp, oracle, outcome};
+ghost use Rattle.semantics.specs.Evaluation.{State, lookedUp, outcome};
 ghost use Rattle.semantics.specs.Evaluate.{endsSound};
 ghost use Rattle.semantics.specs.Parse.{fold, instructions};
 ghost use Rattle.amounts.specs.Lists.{envOf};
 ghost use Rattle.witness.specs.Elements.{stateOf};
-ghost use Rattle.witness.specs.Oracle.{Asks, keyAt, timeAt};
 ghost use Rattle.evaluation.specs.Run.{Answers, Fetched, Fetches, Fits, Pushed, nextAfter, nextOf};
-ghost use Rattle.stacks.specs.Stacks.{Ready, indexesIn, runOf, valuesIn};
-ghost use Rattle.semantics.specs.Run.{Run, act, pushValue, runStep};
+ghost use Rattle.stacks.specs.Stacks.{runOf, waiting};
+ghost use Rattle.semantics.specs.Run.{Run, pushValue, runStep};
 
 // Key and time of an oracle terminal.
 const ORACLE_BYTES: usize = 40;
@@ -50,10 +48,10 @@ enum Step {
     Ended(Verdict),
 }
 
-// The amount of a list at an index: it is pushed.
+// The amount of a list where an index step led: it is pushed.
 fn step_lookup(
     list: AmountList,
-    i: u64,
+    step: index64::Step,
     spent: &[u64],
     spent_marks: &[u8],
     outputs: &[u64],
@@ -67,7 +65,7 @@ fn step_lookup(
     indexes: usize,
 ) -> Turn
     requires { ⌜ values < length (now vals) ⌝ }
-    ensures { λ r. ⌜ ((current : ℕ) (idxs : List ℕ) (st : State) → runOf (now (vals .exit)) idxs st r ≡ pushValue (valuesIn (now (vals .entry)) values) (indexesIn idxs indexes) (outcome (lookedUp (envOf (now (spent .entry)) (now («spent_marks» .entry)) (now (outputs .entry)) (now («output_marks» .entry)) (now (issued .entry)) (now («issued_marks» .entry)) (now (reissued .entry)) (now («reissued_marks» .entry)) current) list (some (pos i))) st)) ⌝ }
+    ensures { λ r. ⌜ ((current : ℕ) (idxs : List ℤ) (st : State) → runOf (now (vals .exit)) idxs st r ≡ pushValue (waiting (now (vals .entry)) values) (waiting idxs indexes) (outcome (lookedUp (envOf (now (spent .entry)) (now («spent_marks» .entry)) (now (outputs .entry)) (now («output_marks» .entry)) (now (issued .entry)) (now («issued_marks» .entry)) (now (reissued .entry)) (now («reissued_marks» .entry)) current) list (stepped step)) st)) ⌝ }
 {
     let v = amounts::looked_up(
         list,
@@ -79,7 +77,7 @@ fn step_lookup(
         issued_marks,
         reissued,
         reissued_marks,
-        i,
+        step,
     );
     push_value(vals, v, values, indexes)
 }
@@ -127,7 +125,7 @@ fn fetch(
     reissued_marks: &[u8],
     current: u64,
     vals: &mut [i64],
-    idxs: &mut [u64],
+    idxs: &mut [i64],
     spot: Spot,
 ) -> Next
     requires { ⌜ Fetches (now code) (now vals) (now idxs) spot ⌝ }
@@ -140,10 +138,10 @@ fn fetch(
     let after = at + 1 + commands::width_of(command);
     match stacks::step(command, code, at + 1, current, vals, idxs, values, indexes) {
         Effect::Turned(turn) => onward(turn, after),
-        Effect::Amount(list, i, rest) => {
+        Effect::Amount(list, step, rest) => {
             let turn = step_lookup(
                 list,
-                i,
+                step,
                 spent,
                 spent_marks,
                 outputs,
@@ -182,7 +180,7 @@ pub fn run(
     ends: &[u32],
     out: &mut [u8],
     vals: &mut [i64],
-    idxs: &mut [u64],
+    idxs: &mut [i64],
 ) -> Evaluated
     requires { ⌜ (endsSound 0 (length (now witness)) (now ends) ≡ true) × Fits (now code) (now vals) (now idxs) (now out) ⌝ }
     ensures { λ r. ⌜ Answers (now (out .entry)) (fold (runStep (envOf (now (spent .entry)) (now («spent_marks» .entry)) (now (outputs .entry)) (now («output_marks» .entry)) (now (issued .entry)) (now («issued_marks» .entry)) (now (reissued .entry)) (now («reissued_marks» .entry)) current)) (Run.going [] [] (stateOf (now (witness .entry)) (now (ends .entry)) (now (out .entry)) (length (now (ends .entry))) 0)) (instructions (now (code .entry)))) (record { answer = r; buffer = now (out .exit) }) ⌝ }

@@ -366,6 +366,25 @@ fn indexes() {
     );
 }
 
+// Not one of the thirteen: an index below 0 on the way to another, and what lies above 2^31 - 1 (R-4). At 0 the first reads the amount of input 1, which is 7.
+fn index_values() {
+    let less_one_plus_two =
+        b"\x02\x01\x01\x00\x00\x00\x00\x00\x00\x00\x04\x01\x02\x00\x00\x00\x00\x00\x00\x00\x03\x12\x10\x07\x00\x00\x00\x00\x00\x00\x00\x30";
+    evaluate(
+        b"    Evaluate: Input(CurrIdx - 1 + 2) Eq 7, at 0",
+        less_one_plus_two,
+        0,
+    );
+    let far = b"\x01\x00\x00\x00\x80\x00\x00\x00\x00\x12\x10\x07\x00\x00\x00\x00\x00\x00\x00\x30";
+    evaluate(b"    Evaluate: Input(2^31) Eq 7", far, 0);
+    let current = b"\x11\x10\x07\x00\x00\x00\x00\x00\x00\x00\x30";
+    evaluate(
+        b"    Evaluate: CurrInputIdx Eq 7, at 2^31",
+        current,
+        0x8000_0000,
+    );
+}
+
 // Not one of the thirteen: the left operand of an index product is made a 64-bit number before the right one is pushed.
 fn index_product() {
     let times_three =
@@ -389,6 +408,7 @@ fn main() {
     oracle_rule();
     indexes();
     text(b"\nbeside document 01's thirteen\n");
+    index_values();
     index_product();
     quotes();
 }

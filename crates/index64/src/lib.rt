@@ -1,55 +1,62 @@
-// Index steps on unsigned 64-bit numbers: each contract is an equation with a definition of specs/ over whole numbers.
+// Index steps on signed numbers: each contract is an equation with a definition of specs/ over whole numbers.
+use num64::Signed64;
 ghost use mathlib.Core.Path.{_≡_};
 ghost use lib.IntN.{pos};
-ghost use Rattle.index64.specs.Steps.{idxAdd, idxSub, idxMul, idxDiv, stepped};
+ghost use Rattle.index64.specs.Steps.{idxAdd, idxSub, idxMul, idxDiv, inRange, stepped, within};
 
-const MAX: u64 = 0xffff_ffff_ffff_ffff;
+// -(2^31 - 1), the least index.
+const LEAST: i64 = -0x7fff_ffff;
 
-// An index, or Overflow where the step leaves 0 to 2^64 - 1 or divides by 0.
+// 2^31 - 1, the greatest.
+const MOST: i64 = 0x7fff_ffff;
+
+// An index, or Overflow where a value is none, or a divisor is 0.
 pub enum Step {
-    Value(u64),
+    Value(i64),
     Overflow,
 }
 
-pub fn step_add(x: u64, y: u64) -> Step
-    ensures { λ r. ⌜ stepped r ≡ idxAdd (pos x) (pos y) ⌝ }
+// The one range test.
+fn ranged(s: Signed64) -> Step
+    ensures { λ r. ⌜ stepped r ≡ within s ⌝ }
 {
-    if x <= MAX - y {
-        Step::Value(x + y)
-    } else {
-        Step::Overflow
+    match s {
+        Signed64::Value(z) => if (LEAST <= z) & (z <= MOST) {
+            Step::Value(z)
+        } else {
+            Step::Overflow
+        },
+        Signed64::Overflow => Step::Overflow,
     }
 }
 
-pub fn step_sub(x: u64, y: u64) -> Step
-    ensures { λ r. ⌜ stepped r ≡ idxSub (pos x) (pos y) ⌝ }
+// A constant, or the current index.
+pub fn from_u64(n: u64) -> Step
+    ensures { λ r. ⌜ stepped r ≡ inRange (pos n) ⌝ }
 {
-    if y <= x {
-        Step::Value(x - y)
-    } else {
-        Step::Overflow
-    }
+    ranged(num64::from_u64(n))
 }
 
-pub fn step_mul(x: u64, y: u64) -> Step
-    ensures { λ r. ⌜ stepped r ≡ idxMul (pos x) (pos y) ⌝ }
+pub fn step_add(x: i64, y: i64) -> Step
+    ensures { λ r. ⌜ stepped r ≡ idxAdd x y ⌝ }
 {
-    if y == 0 {
-        return Step::Value(0);
-    }
-    if x <= MAX / y {
-        Step::Value(x * y)
-    } else {
-        Step::Overflow
-    }
+    ranged(num64::checked_add(x, y))
 }
 
-pub fn step_div(x: u64, y: u64) -> Step
-    ensures { λ r. ⌜ stepped r ≡ idxDiv (pos x) (pos y) ⌝ }
+pub fn step_sub(x: i64, y: i64) -> Step
+    ensures { λ r. ⌜ stepped r ≡ idxSub x y ⌝ }
 {
-    if y == 0 {
-        Step::Overflow
-    } else {
-        Step::Value(x / y)
-    }
+    ranged(num64::checked_sub(x, y))
+}
+
+pub fn step_mul(x: i64, y: i64) -> Step
+    ensures { λ r. ⌜ stepped r ≡ idxMul x y ⌝ }
+{
+    ranged(num64::checked_mul(x, y))
+}
+
+pub fn step_div(x: i64, y: i64) -> Step
+    ensures { λ r. ⌜ stepped r ≡ idxDiv x y ⌝ }
+{
+    ranged(num64::checked_div_euclid(x, y))
 }

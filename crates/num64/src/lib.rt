@@ -1,14 +1,15 @@
 // 64-bit arithmetic: each contract is an equation with a definition of specs/ over whole numbers.
-use index64::Step;
 ghost use mathlib.Core.Path.{_≡_};
 ghost use mathlib.Core.Bool.{false};
-ghost use Prim.Native.Nat.{_+_, _<_, _^_};
+ghost use Prim.Native.Nat.{_+_, _*_, _<_, _^_};
 ghost use lib.IntN.{pos, natAbs, negℤ};
 ghost use lib.Signed.{_≤ℤ_, _<ℤ_};
-ghost use Rattle.num64.specs.Exact.{number, signOf};
+ghost use Rattle.num64.specs.Exact.{number, signOf, unsigned};
 ghost use Rattle.num64.specs.Exact.{checkedAdd, checkedSub, checkedMul, checkedNeg, checkedDiv, checkedRem, fitted};
 ghost use Rattle.num64.specs.Crossing.{crossed};
 ghost use Rattle.num64.specs.SignCases.{Euclidean, noQuotient};
+
+const MAX: u64 = 0xffff_ffff_ffff_ffff;
 
 // 2^63: the bits from here on are those of negative numbers.
 const HALF: u64 = 0x8000_0000_0000_0000;
@@ -26,6 +27,12 @@ pub enum Signed64 {
 enum Whole {
     Pos(u64),
     NegSuc(u64),
+}
+
+// An unsigned result, or Overflow where 64 bits hold none.
+enum Unsigned64 {
+    Value(u64),
+    Overflow,
 }
 
 // ---- between signed and whole numbers
@@ -82,6 +89,19 @@ fn negated(z: Whole) -> Whole
     }
 }
 
+fn product(x: u64, y: u64) -> Unsigned64
+    ensures { λ r. ⌜ r ≡ unsigned (x * y) ⌝ }
+{
+    if y == 0 {
+        return Unsigned64::Value(0);
+    }
+    if x <= MAX / y {
+        Unsigned64::Value(x * y)
+    } else {
+        Unsigned64::Overflow
+    }
+}
+
 // z, with its sign turned where b is negative
 fn signed_by(b: i64, z: Whole) -> Whole
     requires { ⌜ natAbs (number z) < 2 ^ 64 ⌝ }
@@ -103,6 +123,13 @@ fn crosses(m: u64, n: u64, t: u64) -> bool
 }
 
 // ---- checked arithmetic
+
+// An unsigned number as a signed one.
+pub fn from_u64(n: u64) -> Signed64
+    ensures { λ r. ⌜ r ≡ fitted (pos n) ⌝ }
+{
+    fit(Whole::Pos(n))
+}
 
 pub fn checked_add(a: i64, b: i64) -> Signed64
     ensures { λ r. ⌜ r ≡ checkedAdd a b ⌝ }
@@ -137,9 +164,9 @@ pub fn checked_neg(a: i64) -> Signed64
 pub fn checked_mul(a: i64, b: i64) -> Signed64
     ensures { λ r. ⌜ r ≡ checkedMul a b ⌝ }
 {
-    match index64::step_mul(absolute(a), absolute(b)) {
-        Step::Value(p) => fit(signed_by(a, signed_by(b, Whole::Pos(p)))),
-        Step::Overflow => Signed64::Overflow,
+    match product(absolute(a), absolute(b)) {
+        Unsigned64::Value(p) => fit(signed_by(a, signed_by(b, Whole::Pos(p)))),
+        Unsigned64::Overflow => Signed64::Overflow,
     }
 }
 

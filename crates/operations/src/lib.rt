@@ -8,7 +8,6 @@ use semantics::Refusal;
 use semantics::UnOp;
 use semantics::Value;
 ghost use mathlib.Core.Path.{_≡_};
-ghost use lib.IntN.{pos};
 ghost use Rattle.index64.specs.Steps.{stepped};
 ghost use Rattle.semantics.specs.Operations.{binRow, cmpRow, idxRow, orRefused, unRow};
 
@@ -61,9 +60,9 @@ pub fn compare(op: CmpOp, x: i64, y: i64) -> bool
     }
 }
 
-// An index step, exact on whole numbers, x its left operand; what leaves 0 to 2^64 - 1, or divides by 0, is an overflow.
-pub fn index(op: IdxOp, x: u64, y: u64) -> Step
-    ensures { λ r. ⌜ stepped r ≡ idxRow op .result (pos x) (pos y) ⌝ }
+// An index step, exact on whole numbers, x its left operand; what leaves -(2^31 - 1) to 2^31 - 1, or divides by 0, is an overflow.
+pub fn index(op: IdxOp, x: i64, y: i64) -> Step
+    ensures { λ r. ⌜ stepped r ≡ idxRow op .result x y ⌝ }
 {
     match op {
         IdxOp::Add => index64::step_add(x, y),

@@ -60,5 +60,6 @@ pub fn number_of(r: Refusal) -> Numbered
         Refusal::TimestampInFuture => with_data(39, 0, 0),
         Refusal::PriceOverflow => with_data(40, 0, 0),
         Refusal::IndexStep => with_data(41, 0, 0),
+        Refusal::NegativeIndex => with_data(43, 0, 0),
     }
 }

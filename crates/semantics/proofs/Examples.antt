@@ -108,8 +108,8 @@ examples =
     -- 12
     ∷ (shownCheck (checked (eq (Expr.Binary BinOp.Add five (Expr.PriceOracle1 key 0)) five)), pos 5 ∷ pos 0 ∷ pos 0 ∷ [])
     ∷ (shownCheck (checked (eq (Expr.PriceOracle1W key 0) (Expr.PriceOracle1 key 0))), pos 4 ∷ pos 0 ∷ pos 0 ∷ [])
-    -- 13
-    ∷ (verdict isBefore 0, pos 41 ∷ pos 0 ∷ pos 0 ∷ []) ∷ (verdict isBefore 1, pos 1 ∷ []) ∷ []
+    -- 13, as R-4 has it: "current index less 1 used at index 0 gives 43"
+    ∷ (verdict isBefore 0, pos 43 ∷ pos 0 ∷ pos 0 ∷ []) ∷ (verdict isBefore 1, pos 1 ∷ []) ∷ []
 
 pub examples-right : map (λ (e : List ℤ × List ℤ). e .0) examples ≡ map (λ (e : List ℤ × List ℤ). e .1) examples
 unfolding examples checkedAdd checkedNeg checkedDiv checkedRem idxSub littleEndian bytesValue idxForm exprForm form idxCode exprCode code commandOf instructions parse idxHeadForm idxHead idxWithin idxFromTokens headForm head exprWithin exprFromTokens comparison fromTokens terminals oracleRule oracles index amount oracle eval evalArith decode initial judged condition checked evaluatedTree evaluated

@@ -122,8 +122,23 @@ abbrev compared : ℕ → ℕ → List ℕ
 compared a b =
     map (λ (o : CmpOp). getD (shownVerdict (on (code (Arith.Compare o (Expr.Const a) (Expr.Const b))) env [] [] [] .answer .verdict)) 1 0) cmpOps
 
+-- what the outputs answer to an index; to a step of two constants
+abbrev output : IdxExpr → List ℕ
+output i = valueOf env (Expr.Lookup AmountList.Output i)
+
 abbrev step : IdxOp → ℕ → ℕ → List ℕ
-step o a b = valueOf env (Expr.Lookup AmountList.Output (IdxExpr.Op o (IdxExpr.Const a) (IdxExpr.Const b)))
+step o a b = output (IdxExpr.Op o (IdxExpr.Const a) (IdxExpr.Const b))
+
+-- the index x plus n, and the index -n
+abbrev plus : IdxExpr → ℕ → IdxExpr
+plus x n = IdxExpr.Op IdxOp.Add x (IdxExpr.Const n)
+
+abbrev below : ℕ → IdxExpr
+below n = IdxExpr.Op IdxOp.Sub (IdxExpr.Const 0) (IdxExpr.Const n)
+
+-- no amounts, at a current index
+abbrev empty : ℕ → Env
+empty current = let none : Amounts = record { numbers = []; marks = [] } in record { spent = none; outputs = none; issued = none; reissued = none; current = current }
 
 -- the kinds of a form
 abbrev kinds : IdxExpr → List ℕ
@@ -133,9 +148,10 @@ kinds x = map (λ t. t .kind) (idxForm x)
 abbrev closed : Env
 closed = let one : Amounts = record { numbers = 5 ∷ []; marks = 0 ∷ [] } in record { spent = one; outputs = one; issued = one; reissued = one; current = 0 }
 
-abbrev lookedUp : ℕ → List ℕ
-lookedUp i =
-    let at : AmountList → List ℕ = λ s. valueOf closed (Expr.Lookup s (IdxExpr.Const i)) in
+-- what each list answers to an index
+abbrev lookedUp : Env → IdxExpr → List ℕ
+lookedUp e i =
+    let at : AmountList → List ℕ = λ s. valueOf e (Expr.Lookup s i) in
     at AmountList.Input ++ at AmountList.Output ++ at AmountList.InputIssue ++ at AmountList.InputReIssue
 
 -- a refusal that names no data
@@ -151,9 +167,21 @@ readings =
     ∷ (valueOf env (Expr.Unary UnOp.Invert (Expr.Const 0)), (2 ^ 64 - 1) ∷ [])
     ∷ (of BinOp.Sub (2 ^ 63) 1, 28 ∷ 2 ^ 63 ∷ 1 ∷ []) ∷ (of BinOp.Mul (2 ^ 62) 2, 29 ∷ 2 ^ 62 ∷ 2 ∷ [])
     ∷ (step IdxOp.Add 7 2, 22 ∷ 9 ∷ 1 ∷ []) ∷ (step IdxOp.Sub 7 2, 22 ∷ 5 ∷ 1 ∷ []) ∷ (step IdxOp.Mul 7 2, 22 ∷ 14 ∷ 1 ∷ []) ∷ (step IdxOp.Div 7 2, 22 ∷ 3 ∷ 1 ∷ [])
-    -- 41: a step that passes 2^64 - 1, and a division by 0
-    ∷ (step IdxOp.Add (2 ^ 64 - 1) 1, bare 41) ∷ (step IdxOp.Mul (2 ^ 63) 2, bare 41) ∷ (step IdxOp.Div 7 0, bare 41)
-    ∷ (lookedUp 0, 21 ∷ 0 ∷ 0 ∷ 23 ∷ 0 ∷ 0 ∷ 25 ∷ 0 ∷ 0 ∷ 26 ∷ 0 ∷ 0 ∷ []) ∷ (lookedUp 1, 20 ∷ 1 ∷ 1 ∷ 22 ∷ 1 ∷ 1 ∷ 24 ∷ 1 ∷ 1 ∷ 24 ∷ 1 ∷ 1 ∷ [])
+    -- R-4, 41: a value outside -(2^31 - 1) to 2^31 - 1, and a division by 0
+    ∷ (step IdxOp.Add (2 ^ 31 - 2) 1, 22 ∷ (2 ^ 31 - 1) ∷ 1 ∷ []) ∷ (step IdxOp.Add (2 ^ 31 - 1) 1, bare 41) ∷ (step IdxOp.Mul (2 ^ 30) 2, bare 41)
+    ∷ (output (IdxExpr.Const (2 ^ 31)), bare 41) ∷ (step IdxOp.Div 7 0, bare 41) ∷ (output (IdxExpr.Op IdxOp.Sub (below (2 ^ 31 - 2)) (IdxExpr.Const 1)), bare 43)
+    ∷ (output (IdxExpr.Op IdxOp.Sub (below (2 ^ 31 - 1)) (IdxExpr.Const 1)), bare 41)
+    -- an index division is Euclid's: -7 by 2 is -4, 7 by -2 is -3, 1 by -2 is 0
+    ∷ (output (plus (IdxExpr.Op IdxOp.Div (below 7) (IdxExpr.Const 2)) 9), 22 ∷ 5 ∷ 1 ∷ []) ∷ (output (plus (IdxExpr.Op IdxOp.Div (IdxExpr.Const 7) (below 2)) 9), 22 ∷ 6 ∷ 1 ∷ [])
+    ∷ (output (IdxExpr.Op IdxOp.Div (IdxExpr.Const 1) (below 2)), 23 ∷ 0 ∷ 0 ∷ [])
+    -- at 0 the current index less 1 plus 2 is 1; less 1 alone is 43, in each list, and before 20, 22 and 24 in an empty one
+    ∷ (output (plus (IdxExpr.Op IdxOp.Sub IdxExpr.CurrIdx (IdxExpr.Const 1)) 2), 22 ∷ 1 ∷ 1 ∷ []) ∷ (lookedUp closed (below 1), bare 43 ++ bare 43 ++ bare 43 ++ bare 43)
+    ∷ (lookedUp (empty 0) (below 1), bare 43 ++ bare 43 ++ bare 43 ++ bare 43)
+    -- the current index is judged where it is used
+    ∷ (shownVerdict (on (eq (Expr.Const 5) (Expr.Const 5)) (empty (2 ^ 40)) [] [] [] .answer .verdict), 0 ∷ 1 ∷ 0 ∷ [])
+    ∷ (valueOf (empty (2 ^ 31 - 1)) Expr.CurrInputIdx, 20 ∷ (2 ^ 31 - 1) ∷ 0 ∷ []) ∷ (valueOf (empty (2 ^ 31)) Expr.CurrInputIdx, bare 41)
+    -- the four lists, at an amount that is not explicit and past their ends
+    ∷ (lookedUp closed (IdxExpr.Const 0), 21 ∷ 0 ∷ 0 ∷ 23 ∷ 0 ∷ 0 ∷ 25 ∷ 0 ∷ 0 ∷ 26 ∷ 0 ∷ 0 ∷ []) ∷ (lookedUp closed (IdxExpr.Const 1), 20 ∷ 1 ∷ 1 ∷ 22 ∷ 1 ∷ 1 ∷ 24 ∷ 1 ∷ 1 ∷ 24 ∷ 1 ∷ 1 ∷ [])
     -- what stands between the operands of index Mul and Div
     ∷ (kinds (IdxExpr.Op IdxOp.Mul (IdxExpr.Const 2) IdxExpr.CurrIdx), 1 ∷ 7 ∷ 4 ∷ 7 ∷ 9 ∷ 1 ∷ 14 ∷ 15 ∷ 8 ∷ [])
     ∷ (kinds (IdxExpr.Op IdxOp.Div (IdxExpr.Const 2) IdxExpr.CurrIdx), 1 ∷ 7 ∷ 4 ∷ 7 ∷ 10 ∷ 1 ∷ 14 ∷ 15 ∷ 16 ∷ 8 ∷ [])
@@ -179,9 +207,10 @@ readings =
     ∷ (answer price unpaired (0 ∷ []) (3 ∷ 2 ∷ []) [], bare 8 ++ 0 ∷ 2 ∷ []) ∷ (answer price env (0 ∷ []) (3 ∷ 2 ∷ []) [], bare 12 ++ 0 ∷ 2 ∷ [])
     ∷ (answer price env [] [] (replicate 111 1), bare 7 ++ 0 ∷ 0 ∷ []) ∷ (on price env [] [] (replicate 111 1) .buffer, replicate 111 1)
     -- the left side first
-    ∷ (answer (eq big past) env [] [] [], 27 ∷ (2 ^ 63 - 1) ∷ 1 ∷ 0 ∷ 0 ∷ []) ∷ (answer (eq past big) env [] [] [], bare 41 ++ 0 ∷ 0 ∷ [])
-    -- index and count are unsigned, and a list's end comes before its marks
-    ∷ (answer (eq (Expr.Lookup AmountList.Input (IdxExpr.Const (2 ^ 64 - 1))) big) env [] [] [], 20 ∷ (2 ^ 64 - 1) ∷ 1 ∷ 0 ∷ 0 ∷ [])
+    ∷ (answer (eq big past) env [] [] [], 27 ∷ (2 ^ 63 - 1) ∷ 1 ∷ 0 ∷ 0 ∷ []) ∷ (answer (eq past big) env [] [] [], bare 43 ++ 0 ∷ 0 ∷ [])
+    -- index and count are given as they are, and a list's end comes before its marks
+    ∷ (answer (eq (Expr.Lookup AmountList.Input (IdxExpr.Const (2 ^ 31 - 1))) big) env [] [] [], 20 ∷ (2 ^ 31 - 1) ∷ 1 ∷ 0 ∷ 0 ∷ [])
+    ∷ (answer (eq (Expr.Lookup AmountList.Input (IdxExpr.Const (2 ^ 64 - 1))) big) env [] [] [], bare 41 ++ 0 ∷ 0 ∷ [])
     ∷ (answer (eq (Expr.Lookup AmountList.Output IdxExpr.CurrIdx) big) env [] [] [], 23 ∷ 0 ∷ 0 ∷ 0 ∷ 0 ∷ [])
     -- refusal 2's offset: of empty code, of a constant alone, of a byte after a comparison
     ∷ (place (checked []), 2 ∷ 0 ∷ 0 ∷ []) ∷ (place (checked (exprCode (Expr.Const 5))), 2 ∷ 9 ∷ 0 ∷ []) ∷ (place (checked (17 ∷ 17 ∷ 48 ∷ 17 ∷ [])), 2 ∷ 3 ∷ 0 ∷ [])

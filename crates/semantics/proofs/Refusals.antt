@@ -38,3 +38,4 @@ refusal-not-0 Refusal.MalformedSig e = omega arith
 refusal-not-0 Refusal.TimestampInFuture e = omega arith
 refusal-not-0 Refusal.PriceOverflow e = omega arith
 refusal-not-0 Refusal.IndexStep e = omega arith
+refusal-not-0 Refusal.NegativeIndex e = omega arith

@@ -18,7 +18,7 @@ abbrev pub optionThen : Option ℤ → (ℤ → Option ℤ) → Option ℤ
 optionThen none f = none
 optionThen (some z) f = f z
 
--- `IdxExpr::eval`: "Index steps are exact on whole numbers, division rounds down, and only 41 limits them"
+-- `IdxExpr::eval`: "Index steps are exact on whole numbers, .. and only 41 limits them"; R-4: "constants, intermediate values and the current index .. included"
 unfoldable pub index : ℕ → IdxExpr → Option ℤ
 index current (IdxExpr.Const n) = inRange (pos n)
 index current IdxExpr.CurrIdx = inRange (pos current)
@@ -43,15 +43,16 @@ amounts env AmountList.Output = env .outputs
 amounts env AmountList.InputIssue = env .issued
 amounts env AmountList.InputReIssue = env .reissued
 
--- "An explicit 64-bit amount is taken with its bits unchanged as a signed number"; no index is below 0
+-- "An explicit 64-bit amount is taken with its bits unchanged as a signed number"
+-- R-4: "A negative final index gives 43", "where 20, 22 or 24 would be judged, before them"
 unfoldable pub amount : Amounts → AmountList → ℤ → Value
 amount a l (pos i) =
     cond (ltb i (length (a .numbers)))
     (cond (eqb (getD (a .marks) i 0) 1) (Value.Number (signedOf (getD (a .numbers) i 0))) (Value.Refused (listRow l .hidden i)))
     (Value.Refused (listRow l .outside i (length (a .numbers))))
-amount a l (negsuc i) = Value.Refused Refusal.IndexStep
+amount a l (negsuc i) = Value.Refused Refusal.NegativeIndex
 
--- 41: "an index step leaves 0 to 2^64 − 1, or divides by 0"
+-- 41, by R-4: "when a value leaves that range or a divisor is 0"
 abbrev pub lookedUp : Env → AmountList → Option ℤ → Value
 lookedUp env l none = Value.Refused Refusal.IndexStep
 lookedUp env l (some i) = amount (amounts env l) l i

@@ -43,3 +43,5 @@ numbered Refusal.MalformedSig = refusal 38 0 0
 numbered Refusal.TimestampInFuture = refusal 39 0 0
 numbered Refusal.PriceOverflow = refusal 40 0 0
 numbered Refusal.IndexStep = refusal 41 0 0
+-- R-4: "A negative final index gives 43"
+numbered Refusal.NegativeIndex = refusal 43 0 0

@@ -112,6 +112,7 @@ pub enum Refusal {
     TimestampInFuture,
     PriceOverflow,
     IndexStep,
+    NegativeIndex,
 }
 
 // A refusal's number in document 01, with its data: 0 where none is named, and a signed operand as its 64 bits.

@@ -15,7 +15,7 @@ use Rattle.semantics.specs.declared.UnOp.{UnOp}
 use Rattle.semantics.proofs.Tests.{and-true}
 use Rattle.stacks.specs.Stacks.{Ready}
 
-module _ (v i : ℕ) (values : List ℤ) (indexes : List ℕ) where
+module _ (v i : ℕ) (values indexes : List ℤ) where
   pub ready-index : (o : IdxOp) → Ready (Command.Index o) v i values indexes → (2 ≤ i) × (i ≤ length indexes)
   ready-index o r = (leb-true 2 i (r .met), omega (arith, r .indexes-fit))
 

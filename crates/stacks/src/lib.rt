@@ -11,15 +11,15 @@ use semantics::Value;
 use semantics::Verdict;
 ghost use mathlib.Core.Path.{_≡_};
 ghost use mathlib.Core.List.{List, _∷_};
-ghost use Prim.Native.Nat.{ℕ, _+_, _-_, _≤_, _<_};
-ghost use lib.IntN.{ℤ, pos};
+ghost use Prim.Native.Nat.{_+_, _-_, _≤_, _<_};
+ghost use lib.IntN.{ℤ};
 ghost use lib.ListN.{length, take, drop};
 ghost use Rattle.index64.specs.Steps.{stepped};
 ghost use Rattle.semantics.specs.Operations.{binRow, cmpRow, idxRow, unRow};
 ghost use Rattle.semantics.specs.Code.{commandRow};
 ghost use Rattle.semantics.specs.Evaluation.{Env, State, ok, outcome};
 ghost use Rattle.semantics.specs.Run.{Run, act, operand, pushIndex, pushValue};
-ghost use Rattle.stacks.specs.Stacks.{OracleOnly, Ready, effectOf, indexesIn, runOf, valuesIn};
+ghost use Rattle.stacks.specs.Stacks.{OracleOnly, Ready, effectOf, runOf, waiting};
 
 // What a command leads to: so many values and indexes that wait, or the end of the evaluation.
 pub enum Turn {
@@ -28,17 +28,17 @@ pub enum Turn {
 }
 
 // What a command does: all of it with the operands that wait, or a value from elsewhere is still to be pushed.
-// That is the amount of a list at an index, with so many indexes left, or the price of an oracle terminal.
+// That is the amount of a list at an index, if it is one, with so many indexes left, or the price of an oracle terminal.
 pub enum Effect {
     Turned(Turn),
-    Amount(AmountList, u64, usize),
+    Amount(AmountList, Step, usize),
     Oracle,
 }
 
 // A value, on top of so many.
 pub fn push_value(vals: &mut [i64], v: Value, values: usize, indexes: usize) -> Turn
     requires { ⌜ values < length (now vals) ⌝ }
-    ensures { λ r. ⌜ ((idxs : List ℕ) (st : State) → runOf (now (vals .exit)) idxs st r ≡ pushValue (valuesIn (now (vals .entry)) values) (indexesIn idxs indexes) (outcome v st)) ⌝ }
+    ensures { λ r. ⌜ ((idxs : List ℤ) (st : State) → runOf (now (vals .exit)) idxs st r ≡ pushValue (waiting (now (vals .entry)) values) (waiting idxs indexes) (outcome v st)) ⌝ }
 {
     match v {
         Value::Number(z) => {
@@ -50,13 +50,13 @@ pub fn push_value(vals: &mut [i64], v: Value, values: usize, indexes: usize) -> 
 }
 
 // An index, on top of so many.
-fn push_index(idxs: &mut [u64], s: Step, values: usize, indexes: usize) -> Turn
+fn push_index(idxs: &mut [i64], s: Step, values: usize, indexes: usize) -> Turn
     requires { ⌜ indexes < length (now idxs) ⌝ }
-    ensures { λ r. ⌜ ((vals : List ℤ) (st : State) → runOf vals (now (idxs .exit)) st r ≡ pushIndex (valuesIn vals values) (indexesIn (now (idxs .entry)) indexes) st (stepped s)) ⌝ }
+    ensures { λ r. ⌜ ((vals : List ℤ) (st : State) → runOf vals (now (idxs .exit)) st r ≡ pushIndex (waiting vals values) (waiting (now (idxs .entry)) indexes) st (stepped s)) ⌝ }
 {
     match s {
-        Step::Value(n) => {
-            idxs[indexes] = n;
+        Step::Value(z) => {
+            idxs[indexes] = z;
             Turn::On(values, indexes + 1)
         }
         Step::Overflow => Turn::Ended(Verdict::Refused(Refusal::IndexStep)),
@@ -64,17 +64,17 @@ fn push_index(idxs: &mut [u64], s: Step, values: usize, indexes: usize) -> Turn
 }
 
 // The last index.
-fn last_index(idxs: &[u64], indexes: usize) -> u64
+fn last_index(idxs: &[i64], indexes: usize) -> i64
     requires { ⌜ (1 ≤ indexes) × (indexes ≤ length (now idxs)) ⌝ }
-    ensures { λ r. ⌜ pos r ∷ indexesIn (now (idxs .entry)) (indexes - 1) ≡ indexesIn (now (idxs .entry)) indexes ⌝ }
+    ensures { λ r. ⌜ r ∷ waiting (now (idxs .entry)) (indexes - 1) ≡ waiting (now (idxs .entry)) indexes ⌝ }
 {
     idxs[indexes - 1]
 }
 
 // The two last indexes become one.
-fn step_index(op: IdxOp, idxs: &mut [u64], values: usize, indexes: usize) -> Turn
+fn step_index(op: IdxOp, idxs: &mut [i64], values: usize, indexes: usize) -> Turn
     requires { ⌜ (2 ≤ indexes) × (indexes ≤ length (now idxs)) ⌝ }
-    ensures { λ r. ⌜ ((vals : List ℤ) (st : State) → let is = indexesIn (now (idxs .entry)) indexes in runOf vals (now (idxs .exit)) st r ≡ pushIndex (valuesIn vals values) (drop 2 is) st (idxRow op .result (operand is 1) (operand is 0))) ⌝ }
+    ensures { λ r. ⌜ ((vals : List ℤ) (st : State) → let is = waiting (now (idxs .entry)) indexes in runOf vals (now (idxs .exit)) st r ≡ pushIndex (waiting vals values) (drop 2 is) st (idxRow op .result (operand is 1) (operand is 0))) ⌝ }
 {
     let s = operations::index(op, idxs[indexes - 2], idxs[indexes - 1]);
     push_index(idxs, s, values, indexes - 2)
@@ -83,7 +83,7 @@ fn step_index(op: IdxOp, idxs: &mut [u64], values: usize, indexes: usize) -> Tur
 // The two last values become one.
 fn step_binary(op: BinOp, vals: &mut [i64], values: usize, indexes: usize) -> Turn
     requires { ⌜ (2 ≤ values) × (values ≤ length (now vals)) ⌝ }
-    ensures { λ r. ⌜ ((idxs : List ℕ) (st : State) → let vs = valuesIn (now (vals .entry)) values in runOf (now (vals .exit)) idxs st r ≡ pushValue (drop 2 vs) (indexesIn idxs indexes) (outcome (binRow op .result (operand vs 1) (operand vs 0)) st)) ⌝ }
+    ensures { λ r. ⌜ ((idxs : List ℤ) (st : State) → let vs = waiting (now (vals .entry)) values in runOf (now (vals .exit)) idxs st r ≡ pushValue (drop 2 vs) (waiting idxs indexes) (outcome (binRow op .result (operand vs 1) (operand vs 0)) st)) ⌝ }
 {
     let v = operations::binary(op, vals[values - 2], vals[values - 1]);
     push_value(vals, v, values - 2, indexes)
@@ -92,7 +92,7 @@ fn step_binary(op: BinOp, vals: &mut [i64], values: usize, indexes: usize) -> Tu
 // The last value becomes another.
 fn step_unary(op: UnOp, vals: &mut [i64], values: usize, indexes: usize) -> Turn
     requires { ⌜ (1 ≤ values) × (values ≤ length (now vals)) ⌝ }
-    ensures { λ r. ⌜ ((idxs : List ℕ) (st : State) → let vs = valuesIn (now (vals .entry)) values in runOf (now (vals .exit)) idxs st r ≡ pushValue (drop 1 vs) (indexesIn idxs indexes) (outcome (unRow op .result (operand vs 0)) st)) ⌝ }
+    ensures { λ r. ⌜ ((idxs : List ℤ) (st : State) → let vs = waiting (now (vals .entry)) values in runOf (now (vals .exit)) idxs st r ≡ pushValue (drop 1 vs) (waiting idxs indexes) (outcome (unRow op .result (operand vs 0)) st)) ⌝ }
 {
     let v = operations::unary(op, vals[values - 1]);
     push_value(vals, v, values - 1, indexes)
@@ -101,7 +101,7 @@ fn step_unary(op: UnOp, vals: &mut [i64], values: usize, indexes: usize) -> Turn
 // The two last values are compared: the verdict.
 fn step_compare(op: CmpOp, vals: &[i64], values: usize) -> Turn
     requires { ⌜ (2 ≤ values) × (values ≤ length (now vals)) ⌝ }
-    ensures { λ r. ⌜ ((idxs : List ℕ) (st : State) → let vs = valuesIn (now (vals .entry)) values in runOf (now (vals .entry)) idxs st r ≡ Run.stopped (ok (cmpRow op .result (operand vs 1) (operand vs 0)) st)) ⌝ }
+    ensures { λ r. ⌜ ((idxs : List ℤ) (st : State) → let vs = waiting (now (vals .entry)) values in runOf (now (vals .entry)) idxs st r ≡ Run.stopped (ok (cmpRow op .result (operand vs 1) (operand vs 0)) st)) ⌝ }
 {
     Turn::Ended(Verdict::Is(operations::compare(op, vals[values - 2], vals[values - 1])))
 }
@@ -113,30 +113,35 @@ pub fn step(
     at: usize,
     current: u64,
     vals: &mut [i64],
-    idxs: &mut [u64],
+    idxs: &mut [i64],
     values: usize,
     indexes: usize,
 ) -> Effect
     requires { ⌜ Ready command values indexes (now vals) (now idxs) × (at + commandRow command .width ≤ length (now code)) ⌝ }
     ensures { λ r. ⌜ OracleOnly command r ⌝ }
-    ensures { λ r. ⌜ ((env : Env) (st : State) → env .current ≡ current → let n = take (commandRow command .width) (drop at (now (code .entry))) in effectOf env n (now (vals .exit)) values (now (idxs .exit)) indexes st r ≡ act env command n (valuesIn (now (vals .entry)) values) (indexesIn (now (idxs .entry)) indexes) st) ⌝ }
+    ensures { λ r. ⌜ ((env : Env) (st : State) → env .current ≡ current → let n = take (commandRow command .width) (drop at (now (code .entry))) in effectOf env n (now (vals .exit)) values (now (idxs .exit)) indexes st r ≡ act env command n (waiting (now (vals .entry)) values) (waiting (now (idxs .entry)) indexes) st) ⌝ }
 {
     match command {
         Command::Unknown => Effect::Turned(Turn::On(values, indexes)),
         Command::IdxConst => {
             let n = slices::read_le64(code, at);
-            Effect::Turned(push_index(idxs, Step::Value(n), values, indexes))
+            Effect::Turned(push_index(idxs, index64::from_u64(n), values, indexes))
         }
         Command::CurrIdx => {
-            Effect::Turned(push_index(idxs, Step::Value(current), values, indexes))
+            Effect::Turned(push_index(idxs, index64::from_u64(current), values, indexes))
         }
         Command::Index(op) => Effect::Turned(step_index(op, idxs, values, indexes)),
         Command::Const => {
             let z = word64::signed(slices::read_le64(code, at));
             Effect::Turned(push_value(vals, Value::Number(z), values, indexes))
         }
-        Command::CurrInputIdx => Effect::Amount(AmountList::Input, current, indexes),
-        Command::Lookup(list) => Effect::Amount(list, last_index(idxs, indexes), indexes - 1),
+        Command::CurrInputIdx => {
+            Effect::Amount(AmountList::Input, index64::from_u64(current), indexes)
+        }
+        Command::Lookup(list) => {
+            let i = Step::Value(last_index(idxs, indexes));
+            Effect::Amount(list, i, indexes - 1)
+        }
         Command::Binary(op) => Effect::Turned(step_binary(op, vals, values, indexes)),
         Command::Unary(op) => Effect::Turned(step_unary(op, vals, values, indexes)),
         Command::PriceOracle1 => Effect::Oracle,

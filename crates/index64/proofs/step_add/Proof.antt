@@ -1,19 +1,18 @@
--- The sum lies below 2^64 where the test held.
+-- num64's result, in range (`within-fitted`).
 use borrow.Author.Needs.{needs}
-use native.Mathlib.Omega.{arith}
-use Prim.Native.Nat.{_+_}
+use lib.IntN.{_+ℤ_}
+use mir.Facts.{toZ-ofZ}
+use Rattle.num64.specs.Exact.{checkedAdd}
 use Rattle.index64.specs.Steps.{idxAdd}
-use Rattle.index64.proofs.Laws.{in-range, out-of-range}
+use Rattle.index64.proofs.Laws.{within-fitted}
 use Rattle.index64.proofs.step_add.Statement.{statement}
 use Rattle.index64.proofs.step_add.Tie as tie
 
 returns : tie.Need-returns
-unfolding idxAdd
-returns c = in-range _ (omega arith)
-
-returns-2 : tie.Need-returns-2
-unfolding idxAdd
-returns-2 c = out-of-range (c .before .args .x + c .before .args .y) (omega arith)
+unfolding checkedAdd idxAdd
+returns c =
+    let s = c .before .before in
+    rw (c .ranged .ensures, c .before .checked-add .ensures, toZ-ofZ (s .fits .x), toZ-ofZ (s .fits .y)) (within-fitted (s .args .x +ℤ s .args .y))
 
 pub step-add-spec : {M : Type 1} → statement M
-step-add-spec = tie.close (tie.spec (λ c. search needs) (λ c. search needs) returns returns-2)
+step-add-spec = tie.close (tie.spec (λ c κs. search needs) (λ c κs. search needs) returns)

@@ -1,25 +1,18 @@
--- The product lies below 2^64 where the test by division held (`mul-in`, `mul-out`).
+-- num64's result, in range (`within-fitted`).
 use borrow.Author.Needs.{needs}
-use native.Mathlib.Nat.{mul-zero}
+use lib.IntN.{_*ℤ_}
+use mir.Facts.{toZ-ofZ}
+use Rattle.num64.specs.Exact.{checkedMul}
 use Rattle.index64.specs.Steps.{idxMul}
-use Rattle.index64.proofs.Laws.{in-range, out-of-range, mul-in, mul-out}
+use Rattle.index64.proofs.Laws.{within-fitted}
 use Rattle.index64.proofs.step_mul.Statement.{statement}
 use Rattle.index64.proofs.step_mul.Tie as tie
 
 returns : tie.Need-returns
-unfolding idxMul
-returns c = rw (c .if1 .taken, mul-zero)
-
-mul-t6 : tie.Need-mul-t6
-mul-t6 c = record { fits = mul-in _ _ (c .before .if1 .left) (c .if2 .taken) }
-
-returns-2 : tie.Need-returns-2
-unfolding idxMul
-returns-2 c = in-range _ (mul-in _ _ (c .before .if1 .left) (c .if2 .taken))
-
-returns-3 : tie.Need-returns-3
-unfolding idxMul
-returns-3 c = out-of-range _ (mul-out _ _ (c .before .if1 .left) (c .if2 .left))
+unfolding checkedMul idxMul
+returns c =
+    let s = c .before .before in
+    rw (c .ranged .ensures, c .before .checked-mul .ensures, toZ-ofZ (s .fits .x), toZ-ofZ (s .fits .y)) (within-fitted (s .args .x *ℤ s .args .y))
 
 pub step-mul-spec : {M : Type 1} → statement M
-step-mul-spec = tie.close (tie.spec returns (λ c. search needs) mul-t6 returns-2 returns-3)
+step-mul-spec = tie.close (tie.spec (λ c κs. search needs) (λ c κs. search needs) returns)

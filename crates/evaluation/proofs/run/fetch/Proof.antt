@@ -9,7 +9,7 @@ use Rattle.evaluation.proofs.run.fetch.Statement.{statement}
 use Rattle.evaluation.proofs.run.fetch.Tie as tie
 
 abbrev start : tie.After-command-of → tie.Start
-start c = c .before .before .before .before .before .before .before .before .before .before .before .before
+start c = c .before .before .before .before .before .before .before .before .before .before .before
 
 abbrev env : tie.Start → Env
 env s = let a = s .args in envOf (a .spent .now) (a .spent-marks .now) (a .outputs .now) (a .output-marks .now) (a .issued .now) (a .issued-marks .now) (a .reissued .now) (a .reissued-marks .now) (a .current)
@@ -26,7 +26,7 @@ step-requires c κs =
 returns : tie.Need-returns
 returns c =
     let t = c .before .before in
-    let u = t .before .before .before .before .before in
+    let u = t .before .before .before .before in
     let w = u .before .before .before in
     let s = start (w .before) in
     let a = s .args in
@@ -37,7 +37,7 @@ returns-2 : tie.Need-returns-2
 returns-2 c =
     let l = c .before .before in
     let t = l .before .before .before in
-    let u = t .before .before .before .before .before in
+    let u = t .before .before .before .before in
     let w = u .before .before .before in
     let s = start (w .before) in
     let a = s .args in
@@ -47,7 +47,7 @@ returns-2 c =
 
 returns-3 : tie.Need-returns-3
 returns-3 c =
-    let u = c .before .before .before .before .before in
+    let u = c .before .before .before .before in
     let w = u .before .before .before in
     let s = start (w .before) in
     let a = s .args in
@@ -58,7 +58,7 @@ pub fetch-spec : {M : Type 1} → statement M
 fetch-spec =
     tie.close
     (tie.spec
-    (λ c. c .before .before .before .before .before .before .before .before .before .before .before .pre .inside)
+    (λ c. c .before .before .before .before .before .before .before .before .before .before .pre .inside)
     (λ c κs. search needs)
     (λ c. omega (arith, start c .pre .operands, start c .good .0 .0))
     (λ c κs. search needs)
@@ -68,7 +68,7 @@ fetch-spec =
     (λ c. search needs)
     (λ c κs. search needs)
     (λ c. search needs)
-    (λ c κs. omega (arith, start (c .before .before .before .before .before .before .before .before .before .before .before) .pre .ready .values-fit))
+    (λ c κs. omega (arith, start (c .before .before .before .before .before .before .before .before .before .before) .pre .ready .values-fit))
     (λ c κs. search needs)
     (λ c. search needs)
     (λ c. search needs)

@@ -152,14 +152,14 @@ by-step = restOf 8 (armAt 1 by-next)
 abbrev ways : Ways (f.ended .signature .params) (f.ended .kept)
 ways = shared 0 tt u8 & shared 1 tt u64 & shared 2 tt u8 & shared 3 tt u64 & shared 4 tt u8 & shared 5 tt u64 & shared 6 tt u8 & shared 7 tt u64
     & shared 8 tt u8 & value (number w64) (λ x f. refl) & shared 9 tt u8 & shared 10 tt u32
-    & kept-slice 11 tt u8 & kept-slice 12 tt i64 & kept-slice 13 tt u64 & tt
+    & kept-slice 11 tt u8 & kept-slice 12 tt i64 & kept-slice 13 tt i64 & tt
 
 module _ {M : Type 1} (𝓤 : URA M) (H : Heap 𝓤) (A : Atoms 𝓤) (W : Given 𝓤 H A) (mem : Memory → SProp 𝓤) (run : Routine → Fun 𝓤) (𝓣 : Tables 𝓤 H)
     (known-fetch : Knows 𝓤 H A W (𝓣 .C) #evaluation·run·fetch fetch.ended (fetch.clauses 𝓤 H A mem run))
     (known-ask : Knows 𝓤 H A W (𝓣 .C) #witness·ask ask.ended (ask.clauses 𝓤 H A mem run))
     (known-pushed : Knows 𝓤 H A W (𝓣 .C) #evaluation·run·pushed pushed.ended (pushed.clauses 𝓤 H A mem run))
     (κs : Lfts 14) (qs : Shares 14) (code spent spent-marks outputs output-marks issued issued-marks reissued reissued-marks : RefT (List ℕ)) (current : ℕ)
-    (bytes ends out : RefT (List ℕ)) (vals : RefT (List ℤ)) (idxs : RefT (List ℕ)) (l : ℕ → ℕ) where
+    (bytes ends out : RefT (List ℕ)) (vals idxs : RefT (List ℤ)) (l : ℕ → ℕ) where
   abbrev site : Site f.ended (f.clauses 𝓤 H A mem run) ways
   site = record {
     κs = κs;
@@ -183,7 +183,7 @@ module _ {M : Type 1} (𝓤 : URA M) (H : Heap 𝓤) (A : Atoms 𝓤) (W : Given
   record Point : Type 0 where
     pub outs : List ℕ
     pub values : List ℤ
-    pub indexes : List ℕ
+    pub indexes : List ℤ
     pub w : Witness
     pub is-w : Is T.the-row w (witness .val w ∷ [])
 
@@ -292,7 +292,7 @@ module _ {M : Type 1} (𝓤 : URA M) (H : Heap 𝓤) (A : Atoms 𝓤) (W : Given
     turn =
         let p : Point = t .at in
         lends-slice ! i64 #vals κ-vals (at-last vals (p .values)) (length (vals .now)) refl (λ vals-loan.
-        lends-slice ! u64 #idxs κ-idxs (at-last idxs (p .indexes)) (length (idxs .now)) refl (λ idxs-loan.
+        lends-slice ! i64 #idxs κ-idxs (at-last idxs (p .indexes)) (length (idxs .now)) refl (λ idxs-loan.
         sets ! refl tt $ sets ! refl tt $ sets ! refl tt $ sets ! refl tt $
         calls ! known-fetch tokens-of-fetch
         (code & spent & spent-marks & outputs & output-marks & issued & issued-marks & reissued & reissued-marks & current
