@@ -28,6 +28,9 @@ static const uint8_t five[19] = {16, 5, 0, 0, 0, 0, 0, 0, 0, 16, 5, 0, 0, 0, 0, 
 /* the amount at the current index less one, Eq 7 */
 static const uint8_t less_one[22] = {2, 1, 1, 0, 0, 0, 0, 0, 0, 0, 4, 18, 16, 7, 0, 0, 0, 0, 0, 0, 0, 48};
 
+/* the amount at the current index less one plus two, Eq 8 */
+static const uint8_t less_one_plus_two[32] = {2, 1, 1, 0, 0, 0, 0, 0, 0, 0, 4, 1, 2, 0, 0, 0, 0, 0, 0, 0, 3, 18, 16, 8, 0, 0, 0, 0, 0, 0, 0, 48};
+
 /* an oracle terminal with time 5, Eq 9 */
 static void oracle_code(uint8_t code[51]) {
     memset(code, 0, 51);
@@ -66,6 +69,14 @@ static void evaluate(void) {
     expect(a.number == 0 && a.verdict == 1, "evaluate: current index less one at 1");
     a = AT(less_one, 5, empty, no_ends, 0, empty, 0);
     expect(a.number == 20 && a.first == 4 && a.second == 2, "evaluate: beyond the inputs");
+    a = AT(less_one_plus_two, 0, empty, no_ends, 0, empty, 0);
+    expect(a.number == 0 && a.verdict == 1, "evaluate: current index less one plus two at 0");
+    a = AT(less_one, 0x7fffffff, empty, no_ends, 0, empty, 0);
+    expect(a.number == 20 && a.first == 0x7ffffffe && a.second == 2, "evaluate: the greatest current index");
+    a = AT(less_one, 0x80000000, empty, no_ends, 0, empty, 0);
+    expect(a.number == 41 && a.verdict == 0 && a.first == 0 && a.second == 0, "evaluate: a current index of 2^31");
+    a = AT(five, UINT64_MAX, empty, no_ends, 0, empty, 0);
+    expect(a.number == 0 && a.verdict == 1, "evaluate: a current index that is not used");
 
     uint8_t code[51], witness[80], buffer[112 + 16];
     uint32_t ends[3] = {64, 72, 80};

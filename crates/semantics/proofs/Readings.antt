@@ -137,8 +137,8 @@ abbrev below : ℕ → IdxExpr
 below n = IdxExpr.Op IdxOp.Sub (IdxExpr.Const 0) (IdxExpr.Const n)
 
 -- no amounts, at a current index
-abbrev empty : ℕ → Env
-empty current = let none : Amounts = record { numbers = []; marks = [] } in record { spent = none; outputs = none; issued = none; reissued = none; current = current }
+abbrev nowhere : ℕ → Env
+nowhere current = let none : Amounts = record { numbers = []; marks = [] } in record { spent = none; outputs = none; issued = none; reissued = none; current = current }
 
 -- the kinds of a form
 abbrev kinds : IdxExpr → List ℕ
@@ -176,10 +176,10 @@ readings =
     ∷ (output (IdxExpr.Op IdxOp.Div (IdxExpr.Const 1) (below 2)), 23 ∷ 0 ∷ 0 ∷ [])
     -- at 0 the current index less 1 plus 2 is 1; less 1 alone is 43, in each list, and before 20, 22 and 24 in an empty one
     ∷ (output (plus (IdxExpr.Op IdxOp.Sub IdxExpr.CurrIdx (IdxExpr.Const 1)) 2), 22 ∷ 1 ∷ 1 ∷ []) ∷ (lookedUp closed (below 1), bare 43 ++ bare 43 ++ bare 43 ++ bare 43)
-    ∷ (lookedUp (empty 0) (below 1), bare 43 ++ bare 43 ++ bare 43 ++ bare 43)
+    ∷ (lookedUp (nowhere 0) (below 1), bare 43 ++ bare 43 ++ bare 43 ++ bare 43)
     -- the current index is judged where it is used
-    ∷ (shownVerdict (on (eq (Expr.Const 5) (Expr.Const 5)) (empty (2 ^ 40)) [] [] [] .answer .verdict), 0 ∷ 1 ∷ 0 ∷ [])
-    ∷ (valueOf (empty (2 ^ 31 - 1)) Expr.CurrInputIdx, 20 ∷ (2 ^ 31 - 1) ∷ 0 ∷ []) ∷ (valueOf (empty (2 ^ 31)) Expr.CurrInputIdx, bare 41)
+    ∷ (shownVerdict (on (eq (Expr.Const 5) (Expr.Const 5)) (nowhere (2 ^ 40)) [] [] [] .answer .verdict), 0 ∷ 1 ∷ 0 ∷ [])
+    ∷ (valueOf (nowhere (2 ^ 31 - 1)) Expr.CurrInputIdx, 20 ∷ (2 ^ 31 - 1) ∷ 0 ∷ []) ∷ (valueOf (nowhere (2 ^ 31)) Expr.CurrInputIdx, bare 41)
     -- the four lists, at an amount that is not explicit and past their ends
     ∷ (lookedUp closed (IdxExpr.Const 0), 21 ∷ 0 ∷ 0 ∷ 23 ∷ 0 ∷ 0 ∷ 25 ∷ 0 ∷ 0 ∷ 26 ∷ 0 ∷ 0 ∷ []) ∷ (lookedUp closed (IdxExpr.Const 1), 20 ∷ 1 ∷ 1 ∷ 22 ∷ 1 ∷ 1 ∷ 24 ∷ 1 ∷ 1 ∷ 24 ∷ 1 ∷ 1 ∷ [])
     -- what stands between the operands of index Mul and Div
