@@ -64,6 +64,13 @@ fn fit(z: Whole) -> Signed64
     }
 }
 
+// An unsigned number as a signed one.
+pub fn from_u64(n: u64) -> Signed64
+    ensures { λ r. ⌜ r ≡ fitted (pos n) ⌝ }
+{
+    fit(Whole::Pos(n))
+}
+
 fn absolute(a: i64) -> u64
     ensures { λ r. ⌜ r ≡ natAbs a ⌝ }
 {
@@ -123,13 +130,6 @@ fn crosses(m: u64, n: u64, t: u64) -> bool
 }
 
 // ---- checked arithmetic
-
-// An unsigned number as a signed one.
-pub fn from_u64(n: u64) -> Signed64
-    ensures { λ r. ⌜ r ≡ fitted (pos n) ⌝ }
-{
-    fit(Whole::Pos(n))
-}
 
 pub fn checked_add(a: i64, b: i64) -> Signed64
     ensures { λ r. ⌜ r ≡ checkedAdd a b ⌝ }
