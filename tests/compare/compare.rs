@@ -33,11 +33,16 @@ fn too_long(f: &[&str]) -> bool {
     f[0] != "D" && common::tokens(&published::unhex(f[1])) > 1024
 }
 
+/// The published Rust answers None both where no tail can be read (11) and where its oracle rule turns the condition down (4 or 5).
+fn told_apart<'a>(call: &str, answer: &'a str) -> &'a str {
+    if call == "D" && (answer == "4" || answer == "5") { "11" } else { answer }
+}
+
 /// The number that an answer begins with; that of a form or a reading is 0.
 fn number(call: &str, answer: &str) -> String {
     match call {
         "W" if answer.len() > 2 => "0".into(),
-        "D" if answer != "11" => "0".into(),
+        "D" if answer.contains(' ') => "0".into(),
         _ => answer.split(' ').next().unwrap().into(),
     }
 }
@@ -83,11 +88,11 @@ fn run() -> i32 {
             println!("ended at {case}");
             resume_unwind(e)
         });
-        *tally.entry((f[0].into(), number(f[0], &wanted))).or_default() += 1;
+        *tally.entry((f[0].into(), number(f[0], &given))).or_default() += 1;
         for part in far(&f) {
             *parts.entry((f[0].into(), part)).or_default() += 1;
         }
-        if wanted != given && differs.as_ref().map_or(true, |d| case.len() < d.len()) {
+        if wanted != told_apart(f[0], &given) && differs.as_ref().map_or(true, |d| case.len() < d.len()) {
             differs = Some(format!("{case}\n  wanted {wanted}\n  ours   {given}"));
         }
     });

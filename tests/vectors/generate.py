@@ -299,9 +299,6 @@ def decodings():
         [(1, 2), (7,), (1, 3), (7,), (9,), (1, 1), (14,), (15,), (8,), (22,), (1, 1), (14,), (15,), b8(3), (14,)],
     ):
         decode(*records(ts))
-    for which in (4, 5):
-        for _ in range(12):
-            decode(*records(form(rule_broken(which))))
     for n in (MAX_TOKENS, MAX_TOKENS - 1):
         for t in sized(n):
             decode(*records(form(t)))
@@ -311,6 +308,37 @@ def decodings():
     for op, after in ((21, []), (18, []), (19, []), (20, []), (5, amount), (6, amount)):  # operations of one token without an operand: the deepest readings there are
         after = after + [(14,)]
         decode(*records([(op,)] * (MAX_TOKENS - len(after)) + after))
+
+
+def decoded_as_checked(t, before=()):
+    """R-2: a tail that is the form of a condition is answered as Check answers the condition, whatever stands before it."""
+    told(decode(*records([*before, *form(t)]))[:2], model.check(code_of(t)))
+
+
+def rules_told():
+    """R-2: 4, 5 and 11 of Decode."""
+    for which in (4, 5):
+        for _ in range(60):
+            t = small(rule_broken(which))
+            told(model.check(code_of(t))[0], which)
+            decoded_as_checked(t)
+            decoded_as_checked(t, [token() for _ in range(rng.randrange(1, 6))])
+            decode(*records(altered(form(t))))
+            decode(*records(form(t)[:-1]))
+    for _ in range(200):
+        decoded_as_checked(small(condition(3, "oobuc")))
+    first, later = (32, KEY, 5), (33, KEY, 5)
+    for t in (
+        (48, later, FIVE), (48, (22, later, FIVE), FIVE), (48, (30, later), FIVE), (48, later, first), (48, (22, later, first), FIVE), (48, (22, later, later), first),  # 4
+        (48, (22, FIVE, first), FIVE), (48, FIVE, first), (48, first, first), (48, (22, first, first), FIVE), (48, (17,), first), (48, (18, (2,)), (22, later, first)),  # 5
+        (48, (22, (18, (3, (2,), (1, 1))), later), first), (48, FIVE, (22, FIVE, (31, first))),
+        (48, first, later), (48, FIVE, later), (48, (22, FIVE, later), later), (48, (22, first, later), (22, later, FIVE)), (48, (18, (2,)), later),  # neither
+    ):
+        for own in (FIVE, first, later, (22, first, FIVE), (48, later, first), (48, FIVE, FIVE)):  # what stands before the tail is not judged
+            decoded_as_checked(t, form(own))
+        decoded_as_checked(t)
+    for left in ((28, later, FIVE), (28, FIVE, first), (28, first, FIVE)):  # of 1,024 tokens
+        decoded_as_checked((50, inverts(MAX_TOKENS - 2 - len(form(left)), left), FIVE))
 
 
 # ---- the smallest example of each number, and the worked example, as docs/OPERATORS.md tells them
@@ -434,6 +462,8 @@ def decoding_examples():
     told(decode([14], [], [0], b"")[:2], (9, 0))
     told(one(14, 0, MAX_CODE - 1)[0], 7)
     told(one(14, 0)[0], 11)
+    told(decode(*records(form((48, (33, KEY, 5), FIVE))))[0], 4)
+    told(decode(*records(form((48, FIVE, (32, KEY, 5)))))[0], 5)
     told(decode([0] * (MAX_TOKENS + 1), [0] * (MAX_TOKENS + 1), [0] * (MAX_TOKENS + 1), b"")[0], 10)
 
 
@@ -446,8 +476,8 @@ def asked(call, faults):
     if call == "Write":
         return write(*orders.writing(faults))[0]
     if call == "Decode":
-        kinds, room = orders.decoding(faults)
-        return decode(kinds, [5] * len(kinds), [0] * len(kinds), b"", room)[0]
+        kinds, numbers, room = orders.decoding(faults)
+        return decode(kinds, numbers, [0] * len(kinds), KEY, room)[0]
     code = orders.condition_code(call, faults)
     check(code)
     return model.check(code)[0]
@@ -514,8 +544,10 @@ def add_written(code, answer):
 def add_decoded(tokens, answer):
     kinds, numbers, places, keys = records(tokens)
     start, code = (0, b"") if answer == "11" else (int(answer.split(" ")[0]), unhex(answer.split(" ")[1]))
+    number = 0 if code else model.decode(kinds, numbers, places, keys, MAX_CODE)[0]
+    assert code or number in (4, 5, 11), "the Rust's None is 4, 5 or 11"
     parts = [bytes(kinds), words(*numbers), struct.pack("<%dI" % len(places), *places), keys]
-    cases.add(4, 0 if code else 11, parts + [words(MAX_CODE, 0 if code else 11, 0, len(code), start), code])
+    cases.add(4, number, parts + [words(MAX_CODE, number, 0, len(code), start), code])
 
 
 def published(path):
@@ -550,6 +582,7 @@ def main():
         for _ in range(10):
             write(code_of((48, (rng.choice([18, 19]), (rng.choice([3, 5]), (2,), (1, n))), const(5))))
     decodings()
+    rules_told()
     orderings()
     bounds()
     with open(sys.argv[1], "wb") as f:

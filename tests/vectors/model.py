@@ -393,7 +393,7 @@ def decode(kinds, numbers, places, keys, room):
     for start, t in found:
         try:
             oracle_rule(t)
-            return (0, 0, code_of(t), start)
-        except Refused:
-            pass
+        except Refused as r:  # "4 or 5 as Check would"
+            return r.answer[:2] + (b"", 0)
+        return (0, 0, code_of(t), start)
     return (11, 0, b"", 0)

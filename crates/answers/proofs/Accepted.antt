@@ -1,9 +1,9 @@
--- The struct that Decode gives back accepts what its answer accepts; so demand 3 holds of the struct where it holds of the answer.
+-- The struct that Decode gives back accepts what its answer accepts; so demand 3 holds of the struct where it holds of the answer. Its number is the answer's.
 use Prim.Native.Nat.{ℕ}
-use mathlib.Core.Path.{refl, ap₂}
+use mathlib.Core.Path.{_≡_, refl, ap₂}
 use mathlib.Core.List.{List}
 use Rattle.semantics.specs.declared.Decoded.{Decoded}
-use Rattle.semantics.specs.Meaning.{CallAccepts, CallUnambiguous}
+use Rattle.semantics.specs.Meaning.{CallAccepts, CallUnambiguous, decodedNumber}
 use Rattle.semantics.specs.Records.{Records, tokens}
 use Rattle.semantics.proofs.Meaning.{unambiguous-as}
 use Rattle.semantics.proofs.Refusals.{refusal-not-0}
@@ -20,3 +20,7 @@ pub answer-unambiguous : (r : Records) (old : List ℕ) (d : Decoded) (new : Lis
     → CallUnambiguous r old (AnswerAccepts (decodeAnswer d) new)
 answer-unambiguous r old d new u few sound full =
     unambiguous-as (tokens r) (answer-accepts d new) (call-accepts d new) (u few sound full)
+
+pub answer-number : (d : Decoded) → decodeAnswer d .number ≡ decodedNumber d
+answer-number (Decoded.Code bytes start) = refl
+answer-number (Decoded.Refused r) = refl

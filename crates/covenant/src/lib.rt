@@ -9,7 +9,7 @@ ghost use mathlib.Core.Path.{_≡_};
 ghost use Rattle.semantics.specs.Check.{checked};
 ghost use Rattle.semantics.specs.Decode.{decoded};
 ghost use Rattle.semantics.specs.Evaluate.{evaluated};
-ghost use Rattle.semantics.specs.Meaning.{CallUnambiguous};
+ghost use Rattle.semantics.specs.Meaning.{CallTold, CallUnambiguous};
 ghost use Rattle.semantics.specs.Write.{Writes, writing, written};
 ghost use Rattle.amounts.specs.Lists.{envOf};
 ghost use Rattle.semantics.specs.Records.{recordsOf};
@@ -80,7 +80,7 @@ pub extern "C" fn covenant_write(
 }
 
 // Decode: of what is lent only `code` is written, the bytes reported at its front. There are as many records as kinds.
-// Refusals 10, 9, 7, 11; a refusal writes nothing. The third promise is demand 3, of the struct that is given back.
+// Refusals 10, 9, 7, then 4, 5 or 11; a refusal writes nothing. The third promise is demand 3, of the struct that is given back; the fourth is what 4, 5 and 11 tell.
 #[no_mangle]
 pub extern "C" fn covenant_decode(
     kinds: &[u8],
@@ -92,6 +92,7 @@ pub extern "C" fn covenant_decode(
     ensures { λ r. ⌜ r ≡ decodeAnswer (decoded (recordsOf (now (kinds .entry)) (now (numbers .entry)) (now (places .entry)) (now (keys .entry))) (now (code .entry)) .answer) ⌝ }
     ensures { λ r. ⌜ now (code .exit) ≡ decoded (recordsOf (now (kinds .entry)) (now (numbers .entry)) (now (places .entry)) (now (keys .entry))) (now (code .entry)) .buffer ⌝ }
     ensures { λ r. ⌜ CallUnambiguous (recordsOf (now (kinds .entry)) (now (numbers .entry)) (now (places .entry)) (now (keys .entry))) (now (code .entry)) (AnswerAccepts r (now (code .exit))) ⌝ }
+    ensures { λ r. ⌜ CallTold (recordsOf (now (kinds .entry)) (now (numbers .entry)) (now (places .entry)) (now (keys .entry))) (now (code .entry)) (r .number) ⌝ }
 {
     answers::decode_answer(decoder::decode(kinds, numbers, places, keys, code))
 }

@@ -1,6 +1,5 @@
--- The call: 10, 9, 7 in this order, then what the tokens are read as; and that it is unambiguous.
+-- The call: 10, 9, 7 in this order, then what the tokens are read as; and that it is unambiguous, and what its number tells.
 use Prim.Native.Nat.{ℕ, _+_, _-_, _^_, _≤_, _<_}
-use mathlib.Core.Bool.{Bool, true, false, cond}
 use mathlib.Core.Option.{Option, none, some}
 use mathlib.Core.Path.{_≡_, refl, sym, ap, ap₂, subst, _∙_}
 use mathlib.Core.List.{List, _++_, reverse}
@@ -19,21 +18,22 @@ use Rattle.semantics.specs.FromTokens.{Found, found, fromTokens, nothing}
 use Rattle.semantics.specs.Evaluate.{over}
 use Rattle.semantics.specs.Records.{Records, tokenAt, tokens, unsound}
 use Rattle.semantics.specs.Decode.{Decoding, Reading, decode, decoded, decodedAs, reading, unlessRuled}
-use Rattle.semantics.specs.Meaning.{CallAccepts, CallUnambiguous}
+use Rattle.semantics.specs.Meaning.{CallAccepts, CallTold, CallUnambiguous, decodedNumber}
 use Rattle.semantics.proofs.Canon.{canon}
 use Rattle.semantics.proofs.Find.{reader-picked, reader-sound}
 use Rattle.semantics.proofs.FromTokens.{arith-reader}
 use Rattle.semantics.proofs.Meaning.{call-decodes, call-unambiguous, decoded-fits}
 use Rattle.semantics.proofs.Records.{length-tokens, tokens-sound}
+use Rattle.semantics.proofs.Told.{call-told}
 use Rattle.productions.specs.Before.{before}
 use Rattle.readers.specs.Readings.{readingOf}
 use Rattle.decoder.specs.Sound.{Ready}
-use Rattle.emission.specs.Pieces.{joined, judged, keeps, pieces}
+use Rattle.emission.specs.Pieces.{broken, joined, judged, pieces, unlessBroken}
 use Rattle.emission.specs.declared.Judged.{Judged}
 use Rattle.readers.specs.declared.Reading as R
 use Rattle.productions.proofs.Tokens.{length-before, reverse-tokens}
 use Rattle.emission.proofs.Trees.{arith-joined, arithPieces, form-pieces}
-use Rattle.emission.proofs.Rules.{keeps-rule, kept}
+use Rattle.emission.proofs.Rules.{broken-rule}
 
 -- the pieces of the tokens from `start` on
 abbrev pub allPieces : Records → ℕ → List (List ℕ)
@@ -52,16 +52,20 @@ read-none r e = decode-is r ∙ go (fromTokens (before (tokenAt r) (length (r .k
     go nothing q = refl
 
 -- what is read is judged by its pieces
-ruled : (o : Option Refusal) (a : Arith) (start : ℕ) → unlessRuled o a start ≡ cond (kept o) (Reading.accepted (code a) start) (Reading.refused Refusal.NoCondition)
+abbrev readAs : Option Refusal → List ℕ → ℕ → Reading
+readAs none b start = Reading.accepted b start
+readAs (some x) b start = Reading.refused x
+
+ruled : (o : Option Refusal) (a : Arith) (start : ℕ) → unlessRuled o a start ≡ readAs o (code a) start
 ruled none a start = refl
 ruled (some x) a start = refl
 
 pub read-judged : (r : Records) (start : ℕ) → R.Reading.Read start ≡ readingOf (fromTokens (before (tokenAt r) (length (r .kinds))))
-    → decode (tokens r) ≡ cond (keeps (allPieces r start)) (Reading.accepted (joined (allPieces r start)) start) (Reading.refused Refusal.NoCondition)
+    → decode (tokens r) ≡ readAs (broken (allPieces r start)) (joined (allPieces r start)) start
 read-judged r start e = decode-is r ∙ go (fromTokens (before (tokenAt r) (length (r .kinds)))) refl e
   where
     go : (g : Found Arith) → fromTokens (before (tokenAt r) (length (r .kinds))) ≡ g → R.Reading.Read start ≡ readingOf g
-        → reading g ≡ cond (keeps (allPieces r start)) (Reading.accepted (joined (allPieces r start)) start) (Reading.refused Refusal.NoCondition)
+        → reading g ≡ readAs (broken (allPieces r start)) (joined (allPieces r start)) start
     go (found a s) p q =
         let size : length s ≡ start = cc in
         let split : before (tokenAt r) (length (r .kinds)) ≡ reverse (form a) ++ s = reader-sound arith-reader (before (tokenAt r) (length (r .kinds))) p in
@@ -71,39 +75,37 @@ read-judged r start e = decode-is r ∙ go (fromTokens (before (tokenAt r) (leng
         let count : length (r .kinds) - start ≡ length (form a) = omega arith in
         let is : allPieces r start ≡ arithPieces a = ap₂ (λ (n : ℕ) (l : List Token). pieces n l) count split ∙ form-pieces a same s in
         ruled (oracleRule a) a (length s)
-        ∙ rw (is, keeps-rule a, arith-joined a, size)
+        ∙ rw (is, broken-rule a, arith-joined a, size)
     go nothing p q = let z : _≡_ {A = ℕ} 0 1 = cc in absurd (omega arith)
 
 -- a record's tokens that are read, as the code finds them: the rule is broken, or it is kept
 module _ (r : Records) (old : List ℕ) (ready : Ready r old) (bytes : Bytes (r .keys)) (wide : All (λ n. n < 2 ^ 64) (r .numbers)) where
-  pub turned-down : decode (tokens r) ≡ Reading.refused Refusal.NoCondition
-      → _≡_ {A = Decoding} (record { answer = Decoded.Refused Refusal.NoCondition; buffer = old }) (decodedAs old (decode (tokens r)))
-  turned-down e = rw e
+  pub turned-down : (x : Refusal) → decode (tokens r) ≡ Reading.refused x
+      → _≡_ {A = Decoding} (record { answer = Decoded.Refused x; buffer = old }) (decodedAs old (decode (tokens r)))
+  turned-down x e = rw e
 
   module _ (start : ℕ) (read : R.Reading.Read start ≡ readingOf (fromTokens (before (tokenAt r) (length (r .kinds))))) where
-    pub rule-broken : Judged.Broken ≡ judged (allPieces r start) → decode (tokens r) ≡ Reading.refused Refusal.NoCondition
+    pub rule-broken : (x : Refusal) → Judged.Broken x ≡ judged (allPieces r start) → decode (tokens r) ≡ Reading.refused x
     unfolding judged
-    rule-broken e = read-judged r start read ∙ go (keeps (allPieces r start)) e
+    rule-broken x e = read-judged r start read ∙ go (broken (allPieces r start)) e
       where
-        go : (b : Bool) → Judged.Broken ≡ cond b (Judged.Kept (length (joined (allPieces r start)))) Judged.Broken
-            → cond b (Reading.accepted (joined (allPieces r start)) start) (Reading.refused Refusal.NoCondition) ≡ Reading.refused Refusal.NoCondition
-        go true q = let z : _≡_ {A = ℕ} 0 1 = cc in absurd (omega arith)
-        go false q = refl
+        go : (o : Option Refusal) → Judged.Broken x ≡ unlessBroken o (length (joined (allPieces r start)))
+            → readAs o (joined (allPieces r start)) start ≡ Reading.refused x
+        go none q = let z : _≡_ {A = ℕ} 0 1 = cc in absurd (omega arith)
+        go (some y) q = cc
 
     module _ (size : ℕ) (kept-is : Judged.Kept size ≡ judged (allPieces r start)) where
-      kept-size : (keeps (allPieces r start) ≡ true) × (size ≡ length (joined (allPieces r start)))
+      kept-size : (broken (allPieces r start) ≡ none) × (size ≡ length (joined (allPieces r start)))
       unfolding judged
-      kept-size = go (keeps (allPieces r start)) refl kept-is
+      kept-size = go (broken (allPieces r start)) refl kept-is
         where
-          go : (b : Bool) → keeps (allPieces r start) ≡ b → Judged.Kept size ≡ cond b (Judged.Kept (length (joined (allPieces r start)))) Judged.Broken
-              → (keeps (allPieces r start) ≡ true) × (size ≡ length (joined (allPieces r start)))
-          go true p q = (p, cc)
-          go false p q = let z : _≡_ {A = ℕ} 0 1 = cc in absurd (omega arith)
+          go : (o : Option Refusal) → broken (allPieces r start) ≡ o → Judged.Kept size ≡ unlessBroken o (length (joined (allPieces r start)))
+              → (broken (allPieces r start) ≡ none) × (size ≡ length (joined (allPieces r start)))
+          go none p q = (p, cc)
+          go (some y) p q = let z : _≡_ {A = ℕ} 0 1 = cc in absurd (omega arith)
 
       accepted : decode (tokens r) ≡ Reading.accepted (joined (allPieces r start)) start
-      accepted =
-          read-judged r start read
-          ∙ ap (λ (b : Bool). cond b (Reading.accepted (joined (allPieces r start)) start) (Reading.refused Refusal.NoCondition)) (kept-size .0)
+      accepted = read-judged r start read ∙ ap (λ (o : Option Refusal). readAs o (joined (allPieces r start)) start) (kept-size .0)
 
       -- the code fits the buffer, and is written there
       pub code-room : (size ≤ length old) × (size ≡ length (joined (allPieces r start)))
@@ -118,10 +120,16 @@ module _ (r : Records) (old : List ℕ) (ready : Ready r old) (bytes : Bytes (r 
 -- 10, 9, 7, and then
 module _ (r : Records) (old : List ℕ) (bytes : Bytes (r .keys)) (wide : All (λ n. n < 2 ^ 64) (r .numbers)) where
   abbrev pub Owed : Decoded → List ℕ → Type 0
-  Owed d after = (_≡_ {A = Decoding} (record { answer = d; buffer = after }) (decoded r old)) × CallUnambiguous r old (CallAccepts d after)
+  Owed d after =
+      (_≡_ {A = Decoding} (record { answer = d; buffer = after }) (decoded r old))
+      × (CallUnambiguous r old (CallAccepts d after) × CallTold r old (decodedNumber d))
 
   owed : (d : Decoded) (after : List ℕ) → _≡_ {A = Decoding} (record { answer = d; buffer = after }) (decoded r old) → Owed d after
-  owed d after e = (e, subst (λ (x : Decoding). CallUnambiguous r old (CallAccepts (x .answer) (x .buffer))) (sym e) (call-unambiguous r old bytes wide))
+  owed d after e = (
+    e,
+    subst (λ (x : Decoding). CallUnambiguous r old (CallAccepts (x .answer) (x .buffer)) × CallTold r old (decodedNumber (x .answer))) (sym e)
+        (call-unambiguous r old bytes wide, call-told r old bytes wide),
+  )
 
   pub owed-10 : maxTokens < length (r .kinds) → Owed (Decoded.Refused Refusal.TooManyRecords) old
   unfolding decoded

@@ -14,7 +14,7 @@ use semantics::MAX_TOKENS;
 use semantics::Refusal;
 ghost use mathlib.Core.Path.{_≡_};
 ghost use Rattle.semantics.specs.Decode.{decode, decoded, decodedAs};
-ghost use Rattle.semantics.specs.Meaning.{CallAccepts, CallUnambiguous};
+ghost use Rattle.semantics.specs.Meaning.{CallAccepts, CallTold, CallUnambiguous, decodedNumber};
 ghost use Rattle.semantics.specs.Records.{recordsOf, tokens};
 ghost use Rattle.decoder.specs.Sound.{Ready};
 
@@ -38,11 +38,13 @@ fn decode_sound(
         return Decoded::Refused(Refusal::NoCondition);
     };
     let start = place as usize;
-    let Judged::Kept(bytes) = judge(kinds, &rows, start) else {
-        return Decoded::Refused(Refusal::NoCondition);
-    };
-    emit(kinds, numbers, places, keys, &rows, start, code, bytes);
-    Decoded::Code { bytes, start }
+    match judge(kinds, &rows, start) {
+        Judged::Broken(r) => Decoded::Refused(r),
+        Judged::Kept(bytes) => {
+            emit(kinds, numbers, places, keys, &rows, start, code, bytes);
+            Decoded::Code { bytes, start }
+        }
+    }
 }
 
 // The condition that token records end with: its code goes to the front of `code`, and nothing else is written there.
@@ -58,6 +60,9 @@ pub fn decode(
     ensures { λ r. ⌜ CallUnambiguous
         (recordsOf (now (kinds .entry)) (now (numbers .entry)) (now (places .entry)) (now (keys .entry)))
         (now (code .entry)) (CallAccepts r (now (code .exit))) ⌝ }
+    ensures { λ r. ⌜ CallTold
+        (recordsOf (now (kinds .entry)) (now (numbers .entry)) (now (places .entry)) (now (keys .entry)))
+        (now (code .entry)) (decodedNumber r) ⌝ }
 {
     if MAX_TOKENS < kinds.len() {
         return Decoded::Refused(Refusal::TooManyRecords);

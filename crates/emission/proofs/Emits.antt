@@ -1,6 +1,7 @@
 -- The loops over pieces: what is judged (`Judging`), and what is written (`Emitting`).
 use Prim.Native.Nat.{ℕ, suc, _+_, _-_, _≤_, _<_}
-use mathlib.Core.Bool.{Bool, true, false, cond, _&&_, _||_, not}
+use mathlib.Core.Bool.{Bool, true, false, cond, _||_}
+use mathlib.Core.Option.{some}
 use mathlib.Core.Path.{_≡_, refl, sym, ap, ap₂, _∙_}
 use mathlib.Core.List.{List, [], _∷_, _++_, append-assoc, append-nil}
 use native.Mathlib.Nat.{add-zero}
@@ -9,11 +10,12 @@ use borrow.Author.Tests.{ne-eqb}
 use lib.Dec.{eqb}
 use lib.ListN.{length, take, drop, length-append, take-append-drop}
 use lib.Seq.{drop-at, length-take-le, take-append-le, take-take}
+use Rattle.semantics.specs.declared.Refusal.{Refusal}
 use Rattle.semantics.specs.Operations.{Token}
 use Rattle.semantics.specs.Records.{Records, tokenAt}
 use Rattle.semantics.specs.Evaluate.{over}
 use Rattle.productions.specs.Before.{Whole, before}
-use Rattle.emission.specs.Pieces.{Met, among, amongLater, command, firstCommand, joined, judged, part, pieces, piecesAfter, placedPiece, put, sizeOf}
+use Rattle.emission.specs.Pieces.{Met, among, amongLater, command, firstCommand, joined, judged, missingIf, part, pieces, piecesAfter, placedPiece, put, sizeOf, unlessBroken}
 use Rattle.emission.specs.declared.Judged.{Judged}
 use Rattle.emission.specs.declared.CommandAt.{CommandAt}
 use Rattle.productions.proofs.Tokens.{drop-before}
@@ -71,22 +73,18 @@ module _ (r : Records) (start end bytes first : ℕ) (later : Bool) (j : Judging
   all-done = let none : end - start ≡ 0 = omega arith in j .is ∙ ap (λ (n : ℕ). pieces n (before (tokenAt r) end) ++ j .done) none
 
   judged-by : judged (pieces (length (r .kinds) - start) (before (tokenAt r) (length (r .kinds))))
-      ≡ cond (not (eqb first 33) && not later) (Judged.Kept bytes) Judged.Broken
+      ≡ unlessBroken (cond (eqb first 33) (some Refusal.PriceOracle1WFirst) (missingIf later)) bytes
   unfolding judged
   judged-by = rw (all-done, ← j .firstIs, ← j .laterIs, ← j .size)
 
-  pub judged-later : later ≡ true → Judged.Broken ≡ judged (pieces (length (r .kinds) - start) (before (tokenAt r) (length (r .kinds))))
-  judged-later e = sym (judged-by ∙ rw e (go (not (eqb first 33))))
-    where
-      go : (b : Bool) → cond (b && false) (Judged.Kept bytes) Judged.Broken ≡ Judged.Broken
-      go true = refl
-      go false = refl
-
-  pub judged-first : first ≡ 33 → Judged.Broken ≡ judged (pieces (length (r .kinds) - start) (before (tokenAt r) (length (r .kinds))))
+  pub judged-first : first ≡ 33 → Judged.Broken Refusal.PriceOracle1WFirst ≡ judged (pieces (length (r .kinds) - start) (before (tokenAt r) (length (r .kinds))))
   judged-first e = sym (judged-by ∙ rw e)
 
-  pub judged-kept : later ≡ false → (first ≡ 33 → ⊥) → Judged.Kept bytes ≡ judged (pieces (length (r .kinds) - start) (before (tokenAt r) (length (r .kinds))))
-  judged-kept e n = sym (judged-by ∙ rw (e, ne-eqb first 33 n))
+  pub judged-later : (first ≡ 33 → ⊥) → later ≡ true → Judged.Broken Refusal.PriceOracle1Missing ≡ judged (pieces (length (r .kinds) - start) (before (tokenAt r) (length (r .kinds))))
+  judged-later n e = sym (judged-by ∙ rw (ne-eqb first 33 n, e))
+
+  pub judged-kept : (first ≡ 33 → ⊥) → later ≡ false → Judged.Kept bytes ≡ judged (pieces (length (r .kinds) - start) (before (tokenAt r) (length (r .kinds))))
+  judged-kept n e = sym (judged-by ∙ rw (ne-eqb first 33 n, e))
 
 -- EMITTING: what stands behind `at` is written
 pub record Emitting (r : Records) (start : ℕ) (old : List ℕ) (end at : ℕ) (buffer : List ℕ) : Type 0 where

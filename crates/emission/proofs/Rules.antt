@@ -1,7 +1,6 @@
--- The oracle rule by pieces is the rule by terminals: `keeps-rule`.
+-- The oracle rule by pieces is the rule by terminals: `broken-rule`.
 use Prim.Native.Nat.{ℕ}
-use mathlib.Core.Bool.{Bool, true, false, cond, _||_, not}
-use mathlib.Core.Option.{Option, none, some}
+use mathlib.Core.Bool.{Bool, true, false, _||_}
 use mathlib.Core.Path.{_≡_, refl, sym, ap, _∙_}
 use mathlib.Core.List.{List, [], _∷_, _++_, append-assoc, append-nil}
 use lib.Dec.{eqb}
@@ -9,21 +8,15 @@ use Rattle.semantics.specs.declared.AmountList.{AmountList}
 use Rattle.semantics.specs.declared.BinOp.{BinOp}
 use Rattle.semantics.specs.declared.CmpOp.{CmpOp}
 use Rattle.semantics.specs.declared.IdxOp.{IdxOp}
-use Rattle.semantics.specs.declared.Refusal.{Refusal}
 use Rattle.semantics.specs.declared.Terminal.{Terminal}
 use Rattle.semantics.specs.declared.UnOp.{UnOp}
 use Rattle.semantics.specs.Trees.{Arith, Expr, IdxExpr}
 use Rattle.semantics.specs.Code.{exprCode, idxCode}
-use Rattle.semantics.specs.Oracle.{among as amongTerminals, missing, oracleRule, rule, terminals}
+use Rattle.semantics.specs.Oracle.{among as amongTerminals, oracleRule, rule, terminals}
 use Rattle.semantics.specs.FromTokens.{Head, IdxHead}
 use Rattle.productions.specs.Ending.{Production, ownCode}
-use Rattle.emission.specs.Pieces.{among, command, keeps}
+use Rattle.emission.specs.Pieces.{among, broken, command, missingIf}
 use Rattle.emission.proofs.Trees.{arithPieces, betweenPieces, exprPieces, idxPieces}
-
--- whether there is a refusal
-abbrev pub kept : Option Refusal → Bool
-kept none = true
-kept (some r) = false
 
 or-assoc : (a b c : Bool) → ((a || b) || c) ≡ (a || (b || c))
 or-assoc true b c = refl
@@ -96,12 +89,12 @@ among-index IdxExpr.CurrIdx q = refl
 among-index (IdxExpr.Op o x y) q =
     simp append-assoc (among-index x _ ∙ among-between o _ ∙ among-index y _ ∙ ap (λ (b : Bool). b || among q) (index-plain o .0))
 
-keeps-index : (e : IdxExpr) (q : List (List ℕ)) → keeps (idxPieces e ++ q) ≡ not (among q)
+broken-index : (e : IdxExpr) (q : List (List ℕ)) → broken (idxPieces e ++ q) ≡ missingIf (among q)
 unfolding idxPieces ownCode idxCode
-keeps-index (IdxExpr.Const n) q = refl
-keeps-index IdxExpr.CurrIdx q = refl
-keeps-index (IdxExpr.Op o x y) q =
-    simp append-assoc (keeps-index x _ ∙ ap not (among-between o _ ∙ among-index y _ ∙ ap (λ (b : Bool). b || among q) (index-plain o .0)))
+broken-index (IdxExpr.Const n) q = refl
+broken-index IdxExpr.CurrIdx q = refl
+broken-index (IdxExpr.Op o x y) q =
+    simp append-assoc (broken-index x _ ∙ ap missingIf (among-between o _ ∙ among-index y _ ∙ ap (λ (b : Bool). b || among q) (index-plain o .0)))
 
 -- the pieces of a value, before others, and its terminals
 among-expr : (e : Expr) (q : List (List ℕ)) → among (exprPieces e ++ q) ≡ (amongTerminals (terminals e) || among q)
@@ -116,35 +109,28 @@ among-expr (Expr.Unary o x) q = simp append-assoc (among-expr x _ ∙ ap (λ (b 
 among-expr (Expr.PriceOracle1 key time) q = refl
 among-expr (Expr.PriceOracle1W key time) q = refl
 
-kept-missing : (ts : List Terminal) → kept (missing ts) ≡ not (amongTerminals ts)
-kept-missing ts = go (amongTerminals ts)
-  where
-    go : (b : Bool) → kept (cond b (some Refusal.PriceOracle1Missing) none) ≡ not b
-    go true = refl
-    go false = refl
-
-keeps-expr : (e : Expr) (q : List (List ℕ)) (m right : List Terminal) → among q ≡ amongTerminals (m ++ right)
-    → keeps (exprPieces e ++ q) ≡ kept (rule (terminals e ++ m) right)
+broken-expr : (e : Expr) (q : List (List ℕ)) (m right : List Terminal) → among q ≡ amongTerminals (m ++ right)
+    → broken (exprPieces e ++ q) ≡ rule (terminals e ++ m) right
 unfolding exprPieces terminals ownCode exprCode
-keeps-expr (Expr.Const n) q m right h = ap not h ∙ sym (kept-missing (m ++ right))
-keeps-expr Expr.CurrInputIdx q m right h = ap not h ∙ sym (kept-missing (m ++ right))
-keeps-expr (Expr.Lookup l i) q m right h =
-    simp append-assoc (keeps-index i _ ∙ ap not (ap (λ (b : Bool). b || among q) (lookup-plain l .0) ∙ h) ∙ sym (kept-missing (m ++ right)))
-keeps-expr (Expr.Binary o x y) q m right h =
+broken-expr (Expr.Const n) q m right h = ap missingIf h
+broken-expr Expr.CurrInputIdx q m right h = ap missingIf h
+broken-expr (Expr.Lookup l i) q m right h =
+    simp append-assoc (broken-index i _ ∙ ap missingIf (ap (λ (b : Bool). b || among q) (lookup-plain l .0) ∙ h))
+broken-expr (Expr.Binary o x y) q m right h =
     simp append-assoc
-    (keeps-expr x _ (terminals y ++ m) right
+    (broken-expr x _ (terminals y ++ m) right
     (among-expr y _ ∙ ap (λ (b : Bool). amongTerminals (terminals y) || (b || among q)) (binary-plain o .0) ∙ ap (λ (b : Bool). amongTerminals (terminals y) || b) h
     ∙ sym (terminals-append (terminals y) (m ++ right)) ∙ ap amongTerminals (sym (append-assoc (terminals y) m right))))
-keeps-expr (Expr.Unary o x) q m right h = simp append-assoc (keeps-expr x _ m right (ap (λ (b : Bool). b || among q) (unary-plain o .0) ∙ h))
-keeps-expr (Expr.PriceOracle1 key time) q m right h = ap not h ∙ sym (kept-missing (m ++ right))
-keeps-expr (Expr.PriceOracle1W key time) q m right h = refl
+broken-expr (Expr.Unary o x) q m right h = simp append-assoc (broken-expr x _ m right (ap (λ (b : Bool). b || among q) (unary-plain o .0) ∙ h))
+broken-expr (Expr.PriceOracle1 key time) q m right h = ap missingIf h
+broken-expr (Expr.PriceOracle1W key time) q m right h = refl
 
-pub keeps-rule : (a : Arith) → keeps (arithPieces a) ≡ kept (oracleRule a)
+pub broken-rule : (a : Arith) → broken (arithPieces a) ≡ oracleRule a
 unfolding arithPieces oracleRule
-keeps-rule (Arith.Compare o x y) =
+broken-rule (Arith.Compare o x y) =
     simp append-assoc
-    (keeps-expr x _ [] (terminals y) (among-expr y _ ∙ ap (λ (b : Bool). amongTerminals (terminals y) || (b || false)) (comparison-plain o .0) ∙ or-no (amongTerminals (terminals y)))
-    ∙ ap (λ (l : List Terminal). kept (rule l (terminals y))) (append-nil (terminals x)))
+    (broken-expr x _ [] (terminals y) (among-expr y _ ∙ ap (λ (b : Bool). amongTerminals (terminals y) || (b || false)) (comparison-plain o .0) ∙ or-no (amongTerminals (terminals y)))
+    ∙ ap (λ (l : List Terminal). rule l (terminals y)) (append-nil (terminals x)))
   where
     or-no : (b : Bool) → (b || false) ≡ b
     or-no true = refl

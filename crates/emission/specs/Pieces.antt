@@ -1,11 +1,13 @@
 -- The condition code that tokens are the form of, a piece for each production, from the last token back.
 use Prim.Native.Nat.{ℕ, zero, suc, _+_, _-_, _≤_, _<_}
 use mathlib.Core.Path.{_≡_}
-use mathlib.Core.Bool.{Bool, false, _&&_, _||_, not, cond}
+use mathlib.Core.Bool.{Bool, false, _&&_, _||_, cond}
+use mathlib.Core.Option.{Option, none, some}
 use mathlib.Core.List.{List, [], _∷_, _++_}
 use lib.ListN.{length, getD, take, drop}
 use lib.Dec.{eqb}
 use Rattle.slices.specs.Bytes.{littleEndian}
+use Rattle.semantics.specs.declared.Refusal.{Refusal}
 use Rattle.semantics.specs.Operations.{Token}
 use Rattle.semantics.specs.FromTokens.{Found, found, nothing}
 use Rattle.semantics.specs.Records.{Records, keyOf, recordsOf, tokenAt}
@@ -69,7 +71,7 @@ joined (p ∷ ps) = p ++ joined ps
 abbrev pub command : List ℕ → ℕ
 command p = getD p 0 0
 
--- the oracle rule: the first command is not 33, and 32 is not among the later ones
+-- the oracle rule: 4 if the first command is 33, else 5 if 32 is among the later ones
 abbrev pub among : List (List ℕ) → Bool
 among [] = false
 among (p ∷ ps) = eqb (command p) priceOracle1 || among ps
@@ -82,11 +84,18 @@ abbrev pub amongLater : List (List ℕ) → Bool
 amongLater [] = false
 amongLater (p ∷ ps) = among ps
 
-abbrev pub keeps : List (List ℕ) → Bool
-keeps ps = not (eqb (firstCommand ps) priceOracle1W) && not (amongLater ps)
+abbrev pub missingIf : Bool → Option Refusal
+missingIf later = cond later (some Refusal.PriceOracle1Missing) none
+
+abbrev pub broken : List (List ℕ) → Option Refusal
+broken ps = cond (eqb (firstCommand ps) priceOracle1W) (some Refusal.PriceOracle1WFirst) (missingIf (amongLater ps))
+
+abbrev pub unlessBroken : Option Refusal → ℕ → Judged
+unlessBroken none size = Judged.Kept size
+unlessBroken (some r) size = Judged.Broken r
 
 unfoldable pub judged : List (List ℕ) → Judged
-judged ps = cond (keeps ps) (Judged.Kept (length (joined ps))) Judged.Broken
+judged ps = unlessBroken (broken ps) (length (joined ps))
 
 -- how many bytes a command's piece has
 abbrev pub sizeOf : ℕ → ℕ

@@ -6,6 +6,7 @@ use productions::kind_before;
 use productions::row_before;
 use productions::width;
 use semantics::MAX_TOKENS;
+use semantics::Refusal;
 ghost use mathlib.Core.Path.{_≡_};
 ghost use mathlib.Core.Bool.{_||_};
 ghost use mathlib.Core.List.{List, [], _∷_, _++_};
@@ -59,10 +60,10 @@ pub struct CommandAt {
     pub first: usize,
 }
 
-// The length of the code that keeps the oracle rule.
+// The length of the code that keeps the oracle rule, or the refusal of the code that breaks it.
 pub enum Judged {
     Kept(usize),
-    Broken,
+    Broken(Refusal),
 }
 
 // The command that the tokens before `end` end with; `Input` of the current index is `CurrInputIdx`.
@@ -124,7 +125,7 @@ fn among_later(later: bool, first: u8) -> bool
     later
 }
 
-// The length of the code of the tokens from `start` on, if the first command is not PriceOracle1W, and PriceOracle1 is not among the later ones.
+// The length of the code of the tokens from `start` on; 4 if the first command is PriceOracle1W, else 5 if PriceOracle1 is among the later ones.
 pub fn judge(kinds: &[u8], rows: &[u8; MAX_TOKENS], start: usize) -> Judged
     requires { ⌜ Fitting (now rows) (length (now kinds)) ⌝ }
     ensures { λ r. ⌜ ((numbers places keys : List ℕ) → Rows (recordsOf (now (kinds .entry)) numbers places keys) (now (rows .entry)) (length (now (kinds .entry))) →
@@ -142,11 +143,11 @@ pub fn judge(kinds: &[u8], rows: &[u8; MAX_TOKENS], start: usize) -> Judged
         bytes += size(last.command);
         end = last.first;
     }
-    if later {
-        return Judged::Broken;
-    }
     if first == PRICE_ORACLE_1W {
-        return Judged::Broken;
+        return Judged::Broken(Refusal::PriceOracle1WFirst);
+    }
+    if later {
+        return Judged::Broken(Refusal::PriceOracle1Missing);
     }
     Judged::Kept(bytes)
 }

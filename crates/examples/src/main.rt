@@ -248,11 +248,13 @@ fn write(asked: &[u8], code: &[u8]) {
     written(answer, &kinds, &numbers);
 }
 
-// Tokens that carry no key.
+// Up to 24 tokens; each that carries a key carries 4, 5, .. 35.
 fn decode(asked: &[u8], kinds: &[u8], numbers: &[u64]) {
+    let key =
+        b"\x04\x05\x06\x07\x08\x09\x0a\x0b\x0c\x0d\x0e\x0f\x10\x11\x12\x13\x14\x15\x16\x17\x18\x19\x1a\x1b\x1c\x1d\x1e\x1f\x20\x21\x22\x23";
     column(asked);
     let mut code = io::large_buffer();
-    let answer = decoder::decode(kinds, numbers, &[0; 7], &[], &mut code);
+    let answer = decoder::decode(kinds, numbers, &[0; 24], key, &mut code);
     decoded(answer, code[0]);
 }
 
@@ -350,6 +352,27 @@ fn oracle_rule() {
     check(b"    Check: PriceOracle1W Eq PriceOracle1", first);
 }
 
+// Not one of the thirteen: two such conditions from their tokens, and tokens that are none's (R-2). Constants and times are 0, and Add has its Num 1.
+fn oracle_rule_decoded() {
+    let mut numbers = [0u64; 24];
+    numbers[12] = 1;
+    decode(
+        b"    Decode: the tokens of Const + PriceOracle1 Eq Const",
+        b"\x02\x19\x1a\x02\x1c\x0f\x20\x21\x03\x22\x1b\x0b\x01\x0e\x0f\x02\x0e",
+        &numbers,
+    );
+    decode(
+        b"    Decode: the tokens of PriceOracle1W Eq PriceOracle1",
+        b"\x1a\x19\x1a\x02\x1c\x0f\x20\x21\x03\x22\x1b\x1b\x23\x19\x1a\x02\x1c\x0f\x20\x21\x03\x22\x1b\x0e",
+        &numbers,
+    );
+    decode(
+        b"    Decode: the same without the last one, Equal",
+        b"\x1a\x19\x1a\x02\x1c\x0f\x20\x21\x03\x22\x1b\x1b\x23\x19\x1a\x02\x1c\x0f\x20\x21\x03\x22\x1b",
+        &numbers,
+    );
+}
+
 // The amount of the input before the current one is 2^63, taken as a signed number.
 fn indexes() {
     let less_one =
@@ -408,6 +431,7 @@ fn main() {
     oracle_rule();
     indexes();
     text(b"\nbeside document 01's thirteen\n");
+    oracle_rule_decoded();
     index_values();
     index_product();
     quotes();

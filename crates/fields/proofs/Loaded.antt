@@ -11,7 +11,7 @@ use lib.Dec.{leb}
 use Rattle.slices.specs.Bytes.{Bytes}
 use Rattle.semantics.specs.Code.{maxTokens}
 use Rattle.semantics.specs.Decode.{Decoding, decoded}
-use Rattle.semantics.specs.Meaning.{CallAccepts, CallUnambiguous}
+use Rattle.semantics.specs.Meaning.{CallAccepts, CallTold, CallUnambiguous, decodedNumber}
 use Rattle.semantics.specs.declared.Decoded.{Decoded}
 use Rattle.semantics.specs.declared.Refusal.{Refusal}
 use Rattle.semantics.specs.Records.{Records}
@@ -23,7 +23,7 @@ use Rattle.records.proofs.Stored.{stored, stored-kept}
 use Rattle.answers.specs.declared.DecodeAnswer.{DecodeAnswer}
 use Rattle.answers.specs.declared.WriteAnswer.{WriteAnswer}
 use Rattle.answers.specs.Answers.{decodeAnswer, writeAnswer}
-use Rattle.answers.proofs.Accepted.{answer-unambiguous}
+use Rattle.answers.proofs.Accepted.{answer-number, answer-unambiguous}
 use Rattle.fields.specs.TokenRecords.{DecodesRecords, Loaded, WritesFields, loadable, writable}
 
 -- ---- Decode
@@ -35,13 +35,15 @@ module _ (rs : List TokenRecord) (keys old new : List ℕ) (r : DecodeAnswer) wh
   pub refuses : maxTokens < length rs → r ≡ decodeAnswer (Decoded.Refused Refusal.TooManyRecords) → new ≡ old → DecodesRecords rs keys old new r
   refuses h e f =
       let d : decoded (fieldsOf rs keys) old ≡ record { answer = Decoded.Refused Refusal.TooManyRecords; buffer = old } = too-many-records (fieldsOf rs keys) old (rw length-map h) in
-      record { answer = rw d e; buffer = rw d f; unambiguous = λ few. absurd (omega (arith, h, few, length-map rs (λ (t : TokenRecord). t .kind))) }
+      let many : length (kindsOf rs) ≤ maxTokens → ⊥ = λ few. omega (arith, h, few, length-map rs (λ (t : TokenRecord). t .kind)) in
+      record { answer = rw d e; buffer = rw d f; unambiguous = λ few. absurd (many few); told = λ few. absurd (many few) }
 
   pub decodes : (kinds numbers places : List ℕ) (d : Decoded) (count : ℕ) → length rs ≡ count → count ≤ maxTokens → Loaded rs kinds numbers places
       → record { answer = d; buffer = new } ≡ decoded (record { kinds = take count kinds; numbers = take count numbers; places = take count places; keys = keys }) old
       → CallUnambiguous (record { kinds = take count kinds; numbers = take count numbers; places = take count places; keys = keys }) old (CallAccepts d new)
+      → CallTold (record { kinds = take count kinds; numbers = take count numbers; places = take count places; keys = keys }) old (decodedNumber d)
       → r ≡ decodeAnswer d → DecodesRecords rs keys old new r
-  decodes kinds numbers places d count size h l e u f =
+  decodes kinds numbers places d count size h l e u t f =
       let few : loadable (length rs) ≡ count = rw size (loaded-few count h) in
       let k : take count kinds ≡ kindsOf rs = subst (λ (m : ℕ). take m kinds ≡ take m (kindsOf rs)) few (l .kindsLoaded) ∙ all (λ t. t .kind) in
       let m : take count numbers ≡ numbersOf rs = subst (λ (m : ℕ). take m numbers ≡ take m (numbersOf rs)) few (l .numbersLoaded) ∙ all (λ t. t .number) in
@@ -49,10 +51,12 @@ module _ (rs : List TokenRecord) (keys old new : List ℕ) (r : DecodeAnswer) wh
       let whole : record { answer = d; buffer = new } ≡ decoded (fieldsOf rs keys) old = e ∙ (λ i. decoded (record { kinds = k i; numbers = m i; places = p i; keys = keys }) old) in
       let mine : CallUnambiguous (fieldsOf rs keys) old (CallAccepts d new) =
       transport (λ i. CallUnambiguous (record { kinds = k i; numbers = m i; places = p i; keys = keys }) old (CallAccepts d new)) u in
+      let number : r .number ≡ decodedNumber d = ap (λ (x : DecodeAnswer). x .number) f ∙ answer-number d in
       record {
         answer = f ∙ ap (λ (x : Decoding). decodeAnswer (x .answer)) whole;
         buffer = ap (λ (x : Decoding). x .buffer) whole;
         unambiguous = rw f (answer-unambiguous (fieldsOf rs keys) old d new mine);
+        told = rw number (transport (λ i. CallTold (record { kinds = k i; numbers = m i; places = p i; keys = keys }) old (decodedNumber d)) t);
       }
     where
       all : (g : TokenRecord → ℕ) → take count (map g rs) ≡ map g rs

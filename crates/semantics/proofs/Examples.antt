@@ -108,6 +108,9 @@ examples =
     -- 12
     ∷ (shownCheck (checked (eq (Expr.Binary BinOp.Add five (Expr.PriceOracle1 key 0)) five)), pos 5 ∷ pos 0 ∷ pos 0 ∷ [])
     ∷ (shownCheck (checked (eq (Expr.PriceOracle1W key 0) (Expr.PriceOracle1 key 0))), pos 4 ∷ pos 0 ∷ pos 0 ∷ [])
+    -- the same two from their tokens (R-2)
+    ∷ (read (form (Arith.Compare CmpOp.Eq (Expr.Binary BinOp.Add five (Expr.PriceOracle1 key 0)) five)), pos 5 ∷ pos 0 ∷ pos 0 ∷ [])
+    ∷ (read (form (Arith.Compare CmpOp.Eq (Expr.PriceOracle1W key 0) (Expr.PriceOracle1 key 0))), pos 4 ∷ pos 0 ∷ pos 0 ∷ [])
     -- 13, as R-4 has it: "current index less 1 used at index 0 gives 43"
     ∷ (verdict isBefore 0, pos 43 ∷ pos 0 ∷ pos 0 ∷ []) ∷ (verdict isBefore 1, pos 1 ∷ []) ∷ []
 

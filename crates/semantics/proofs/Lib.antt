@@ -17,6 +17,7 @@ pub mod Forms
 pub mod Records
 pub mod Room
 pub mod Meaning
+pub mod Told
 pub mod RoundTrip
 pub mod Run
 pub mod Examples

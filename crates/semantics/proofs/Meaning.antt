@@ -1,7 +1,7 @@
 -- DEMAND 3 holds: `unambiguous`, of every list of up to 1,024 sound tokens, and `call-unambiguous`, of the call on records.
 use Prim.Native.Nat.{ℕ, _≤_, _<_, _^_}
 use mathlib.Core.Option.{Option, none, some}
-use mathlib.Core.Path.{_≡_, refl, sym, ap, _∙_, subst}
+use mathlib.Core.Path.{_≡_, refl, sym, ap, _∙_, subst, subst₂}
 use mathlib.Core.List.{List, [], _++_, reverse, reverse-append, reverse-reverse}
 use native.Mathlib.Omega.{arith}
 use borrow.Author.Tests.{le-leb}
@@ -44,7 +44,7 @@ accepted-by (found c r) b n e = go (oracleRule c) refl e
 accepted-by nothing b n e = let z : _≡_ {A = ℕ} 0 1 = cc in absurd (omega arith)
 
 -- a form of few tokens is that of short code
-short : (b : List ℕ) (s : List Token) → length s ≤ maxTokens → HasForm b s → length b ≤ maxCode
+pub short : (b : List ℕ) (s : List Token) → length s ≤ maxTokens → HasForm b s → length b ≤ maxCode
 short b s l f =
     let few = code-fits (f .tree) s (parse-encodable b (f .tree) (f .bytes) (f .wellFormed)) (f .is) l in
     rw (← code-parse b (f .tree) (f .bytes) (f .wellFormed)) (omega (arith, few))
@@ -65,39 +65,41 @@ start-is ts n b f = let h : n ≤ length ts = omega (arith, f .tail) in length-r
 one-tail : (ts : List Token) (m n : ℕ) (a b : List ℕ) → FormAt ts m a → FormAt ts n b → m ≡ n
 one-tail ts m n a b f g = cc (form-found ts m a f, form-found ts n b g, start-is ts m a f, start-is ts n b g)
 
--- and accepted where it passes
-passing-decoded : (ts : List Token) (n : ℕ) (b : List ℕ) (f : PassingAt ts n b) → decode ts ≡ Reading.accepted (code (canon (f .at .form .tree))) n
+-- and answered as the oracle rule says
+pub form-decoded : (ts : List Token) (n : ℕ) (b : List ℕ) (f : FormAt ts n b) → decode ts ≡ unlessRuled (oracleRule (f .form .tree)) (canon (f .form .tree)) n
 unfolding decode
-passing-decoded ts n b f =
-    let o = oracleRule-canon (f .at .form .tree) ∙ f .passes in
-    ap reading (form-found ts n b (f .at)) ∙ rw (o, start-is ts n b (f .at))
+form-decoded ts n b f = ap reading (form-found ts n b f) ∙ rw (oracleRule-canon (f .form .tree), start-is ts n b f)
 
--- and what is accepted is such a tail
+-- and what is found is such a tail
+pub found-form : (ts : List Token) → All Sound ts → (c : Arith) (r : List Token) → fromTokens (reverse ts) ≡ found c r
+    → (f : FormAt ts (length r) (code c)) × (f .form .tree ≡ c)
+found-form ts sound c r e =
+    let split : ts ≡ reverse r ++ form c =
+    sym (reverse-reverse ts) ∙ ap reverse (reader-sound arith-reader (reverse ts) e) ∙ reverse-append (reverse (form c)) r
+    ∙ ap (λ (f : List Token). reverse r ++ f) (reverse-reverse (form c)) in
+    let l = length-reverse r in
+    let tail = all-append Sound (reverse r) (form c) (subst (All Sound) split sound) .1 in
+    let wide = encodable c tail in (
+      record {
+        tail = omega (arith, form-long c, l, ap length split ∙ length-append (reverse r) (form c));
+        form = record {
+          tree = c;
+          bytes = code-bytes c wide;
+          wellFormed = parse-code c wide;
+          small = narrow-sound (form c) tail;
+          is = sym (ap (drop (length r)) split ∙ drop-at (reverse r) (form c) (length r) l);
+        };
+      },
+      refl,
+    )
+
+-- so what is accepted is one that passes
 decoded-passing : (ts : List Token) → All Sound ts → (b : List ℕ) (n : ℕ) → decode ts ≡ Reading.accepted b n → PassingAt ts n b
 unfolding decode
 decoded-passing ts sound b n e =
     let h = accepted-by (fromTokens (reverse ts)) b n e in
-    let c = h .0 in
-    let r = h .1 in
-    let split : ts ≡ reverse r ++ form c =
-    sym (reverse-reverse ts) ∙ ap reverse (reader-sound arith-reader (reverse ts) (h .2)) ∙ reverse-append (reverse (form c)) r
-    ∙ ap (λ (f : List Token). reverse r ++ f) (reverse-reverse (form c)) in
-    let l = length-reverse r in
-    let tail = all-append Sound (reverse r) (form c) (subst (All Sound) split sound) .1 in
-    let wide = encodable c tail in
-    record {
-      at = record {
-        tail = omega (arith, form-long c, l, h .5, ap length split ∙ length-append (reverse r) (form c));
-        form = record {
-          tree = c;
-          bytes = subst Bytes (h .4) (code-bytes c wide);
-          wellFormed = ap parse (sym (h .4)) ∙ parse-code c wide;
-          small = narrow-sound (form c) tail;
-          is = sym (ap (drop n) split ∙ drop-at (reverse r) (form c) n (l ∙ h .5));
-        };
-      };
-      passes = h .3;
-    }
+    let f = found-form ts sound (h .0) (h .1) (h .2) in
+    subst₂ (PassingAt ts) (h .5) (h .4) (record { at = f .0; passes = ap oracleRule (f .1) ∙ h .3 })
 
 -- conditions of one form
 forms-alike : (ts : List Token) → length ts ≤ maxTokens → (a b : List ℕ) → HasForm a ts → HasForm b ts → (l : Lent) → evaluated a l ≡ evaluated b l
@@ -114,7 +116,7 @@ unambiguous ts few sound =
     record {
       accepts = (
         λ a. (a .0, a .1, decoded-passing ts sound (a .0) (a .1) (a .2)),
-        λ f. (code (canon (f .2 .at .form .tree)), f .1, passing-decoded ts (f .1) (f .0) (f .2)),
+        λ f. (code (canon (f .2 .at .form .tree)), f .1, form-decoded ts (f .1) (f .0) (f .2 .at) ∙ rw (f .2 .passes)),
       );
       one = one-tail ts;
       returned = decoded-passing ts sound;

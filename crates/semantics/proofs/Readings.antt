@@ -12,7 +12,7 @@ use Rattle.index64.specs.Steps.{idxAdd, idxSub, idxMul, idxDiv}
 use Rattle.slices.specs.Bytes.{bytesValue, littleEndian}
 use Rattle.semantics.specs.Check.{Checked, checked, condition, judged}
 use Rattle.semantics.specs.Code.{code, commandOf, exprCode, idxCode}
-use Rattle.semantics.specs.Decode.{Decoded, decode, decoded}
+use Rattle.semantics.specs.Decode.{Decoded, Reading, decode, decoded}
 use Rattle.semantics.specs.Evaluate.{Evaluated, Evaluation, Verdict, evaluated, evaluatedTree, initial}
 use Rattle.semantics.specs.Evaluation.{Amounts, Env, Outcome, amount, err, eval, evalArith, index, ok, oracle}
 use Rattle.semantics.specs.FromTokens.{comparison, exprFromTokens, exprWithin, fromTokens, head, headForm, idxFromTokens, idxHead, idxHeadForm, idxWithin}
@@ -21,7 +21,7 @@ use Rattle.semantics.specs.Oracle.{oracleRule, oracles, terminals}
 use Rattle.semantics.specs.Parse.{instructions, parse}
 use Rattle.semantics.specs.Records.{Records, tokensFrom, unsoundFrom}
 use Rattle.semantics.specs.Refusals.{Refusal, numbered}
-use Rattle.semantics.specs.Token.{exprForm, form, idxForm}
+use Rattle.semantics.specs.Token.{Token, exprForm, form, idxForm}
 use Rattle.semantics.specs.Trees.{AmountList, Arith, BinOp, CmpOp, Expr, IdxExpr, IdxOp, UnOp}
 use Rattle.semantics.specs.Write.{Written, writing, written}
 
@@ -103,6 +103,17 @@ write c kinds = shownWritten (written (writing c (records kinds)))
 abbrev shownDecoded : Decoded → List ℕ
 shownDecoded (Decoded.Code n start) = n ∷ start ∷ []
 shownDecoded (Decoded.Refused r) = refused r
+
+-- where the tail begins, or the refusal
+abbrev shownReading : Reading → List ℕ
+shownReading (Reading.accepted b start) = 0 ∷ start ∷ []
+shownReading (Reading.refused r) = refused r
+
+abbrev read : List Token → List ℕ
+read ts = shownReading (decode ts)
+
+abbrev formOf : Expr → Expr → List Token
+formOf x y = form (Arith.Compare CmpOp.Eq x y)
 
 abbrev decodedAnswer : Records → List ℕ
 decodedAnswer r = shownDecoded (decoded r [] .answer)
@@ -221,7 +232,11 @@ readings =
     -- soundness is judged of every record, before 7; a field that is not there is unsound
     ∷ (decodedAnswer (records (36 ∷ 2 ∷ 2 ∷ 14 ∷ [])), 9 ∷ 0 ∷ 0 ∷ []) ∷ (decodedAnswer (records (2 ∷ 3 ∷ 14 ∷ [])), 9 ∷ 1 ∷ 0 ∷ [])
     ∷ (decodedAnswer (record { kinds = 2 ∷ 2 ∷ 14 ∷ []; numbers = 5 ∷ 5 ∷ 0 ∷ []; places = 0 ∷ 0 ∷ []; keys = [] }), 9 ∷ 2 ∷ 0 ∷ [])
-    ∷ (decodedAnswer (records (2 ∷ 2 ∷ 14 ∷ [])), bare 7) ∷ []
+    ∷ (decodedAnswer (records (2 ∷ 2 ∷ 14 ∷ [])), bare 7)
+    -- R-2: where both rules are broken, 4, as Check; what stands before the tail is not judged; where no tail can be read, 11
+    ∷ (read (formOf (Expr.PriceOracle1W key 5) (Expr.PriceOracle1 key 5)), bare 4) ∷ (place (checked (eq (Expr.PriceOracle1W key 5) (Expr.PriceOracle1 key 5))), bare 4)
+    ∷ (read (formOf (Expr.Const 5) (Expr.PriceOracle1 key 5)), bare 5) ∷ (read (exprForm (Expr.PriceOracle1W key 5) ++ formOf (Expr.Const 5) (Expr.Const 5)), 0 ∷ 13 ∷ [])
+    ∷ (read (formOf (Expr.Const 5) (Expr.Const 5) ++ formOf (Expr.Const 5) (Expr.PriceOracle1 key 5)), bare 5) ∷ (read (exprForm (Expr.PriceOracle1W key 5)), bare 11) ∷ []
 
 pub readings-right : map (λ (e : List ℕ × List ℕ). e .0) readings ≡ map (λ (e : List ℕ × List ℕ). e .1) readings
 unfolding readings checkedAdd checkedSub checkedMul idxAdd idxSub idxMul idxDiv littleEndian bytesValue idxForm exprForm form idxCode exprCode code commandOf instructions parse idxHeadForm idxHead idxWithin idxFromTokens headForm head exprWithin exprFromTokens comparison fromTokens terminals oracleRule oracles index amount oracle eval evalArith decode initial judged condition checked evaluatedTree evaluated writing tokensFrom unsoundFrom decoded

@@ -20,11 +20,12 @@ pub data Reading : Type 0 where
   accepted : List ℕ → ℕ → Reading
   refused : Refusal → Reading
 
--- 11: "no tail is the form of a passing condition", whatever the oracle rule refuses it with
+-- R-2: "If a tail is the form of a condition that only the oracle rule turns down, Decode returns 4 or 5 as Check would"
 abbrev pub unlessRuled : Option Refusal → Arith → ℕ → Reading
 unlessRuled none a start = Reading.accepted (code a) start
-unlessRuled (some r) a start = Reading.refused Refusal.NoCondition
+unlessRuled (some r) a start = Reading.refused r
 
+-- R-2: "11 is left for token lists with no readable tail"
 abbrev pub reading : Found Arith → Reading
 reading (found a before) = unlessRuled (oracleRule a) a (length before)
 reading nothing = Reading.refused Refusal.NoCondition
@@ -46,7 +47,7 @@ abbrev pub readingSound : Option ℕ → List Token → List ℕ → Reading
 readingSound (some i) ts old = Reading.refused (Refusal.TokenUnsound i)
 readingSound none ts old = cond (leb maxCode (length old)) (decode ts) (Reading.refused Refusal.BufferTooShort)
 
--- "Decode: 10, 9, 7, 11"; "Decode's 7: under 9,216 bytes"
+-- "Decode: 10, 9, 7, 11"; R-2: "4 and 5 take the position of 11"; "Decode's 7: under 9,216 bytes"
 unfoldable pub decoded : Records → List ℕ → Decoding
 decoded r old =
     decodedAs old

@@ -1,14 +1,17 @@
 -- DEMAND 3: no token sequence carries two meanings. One statement about a whole token list, `Unambiguous`. That it holds of the decoder of token lists
 -- (`ListUnambiguous`) and of the call on records (`CallUnambiguous`) is proved in proofs/Meaning.antt (`unambiguous`, `call-unambiguous`).
+-- R-2: what a decoder's 4, 5 and 11 say of the token list, `Told`; proved in proofs/Told.antt of both (`told`, `call-told`).
 use Prim.Native.Nat.{ℕ, zero, suc, _<_, _≤_, _^_}
 use mathlib.Core.Bool.{true}
-use mathlib.Core.Option.{none}
+use mathlib.Core.Option.{none, some}
 use mathlib.Core.Path.{_≡_}
-use mathlib.Core.Logic.{_↔_}
+use mathlib.Core.Logic.{_↔_, _⊎_}
 use mathlib.Core.List.{List, []}
 use lib.ListN.{length, take, drop}
 use Rattle.slices.specs.Bytes.{All, Bytes}
 use Rattle.semantics.specs.Trees.{Arith}
+use Rattle.semantics.specs.Refusals.{Refusal, numbered}
+use Rattle.semantics.specs.Check.{Checked, checked}
 use Rattle.semantics.specs.Code.{maxCode, maxTokens}
 use Rattle.semantics.specs.Parse.{Parsed, parse}
 use Rattle.semantics.specs.Token.{Token, form, narrow}
@@ -73,3 +76,38 @@ CallUnambiguous r old Accepts =
 -- a call's own answer, with what its code buffer holds then
 abbrev pub CallAccepts : Decoded → List ℕ → List ℕ → ℕ → Type 0
 CallAccepts answer buffer b n = (answer ≡ Decoded.Code (length b) n) × (take (length b) buffer ≡ b)
+
+-- R-2. "0 is success", and a refusal has its number: of Check's answer, of what tokens are read as, and of Decode's answer
+abbrev pub checkedNumber : Checked → ℕ
+checkedNumber (Checked.Passed tokens oracles) = 0
+checkedNumber (Checked.Refused r) = numbered r .number
+
+abbrev pub readingNumber : Reading → ℕ
+readingNumber (Reading.accepted b start) = 0
+readingNumber (Reading.refused r) = numbered r .number
+
+abbrev pub decodedNumber : Decoded → ℕ
+decodedNumber (Decoded.Code bytes start) = 0
+decodedNumber (Decoded.Refused r) = numbered r .number
+
+-- the tail from n on is the form of the condition b, which the oracle rule turns down
+pub record TurnedDownAt (ts : List Token) (n : ℕ) (b : List ℕ) : Type 0 where
+  pub at : FormAt ts n b
+  pub refusal : Refusal
+  pub turned : oracleRule (at .form .tree) ≡ some refusal
+
+-- of a decoder of ts that answers this number
+pub record Told (ts : List Token) (number : ℕ) : Type 0 where
+  -- "If a tail is the form of a condition that only the oracle rule turns down, Decode returns 4 or 5", and nowhere else
+  pub ruled : ((number ≡ 4) ⊎ (number ≡ 5)) ↔ ((b : List ℕ) × (n : ℕ) × TurnedDownAt ts n b)
+  -- "as Check would": it is the number that Check answers for every condition that has a tail for its form
+  pub asCheck : (b : List ℕ) (n : ℕ) → FormAt ts n b → number ≡ checkedNumber (checked b)
+  -- "11 is left for token lists with no readable tail": no tail is the form of any condition
+  pub unread : (number ≡ 11) ↔ ((b : List ℕ) (n : ℕ) → FormAt ts n b → ⊥)
+
+-- owed where demand 3 is: of every list of up to 1,024 sound tokens, and of a call on up to 1,024 sound records with a full-sized buffer
+abbrev pub ListTold : List Token → Type 0
+ListTold ts = length ts ≤ maxTokens → All Sound ts → Told ts (readingNumber (decode ts))
+
+abbrev pub CallTold : Records → List ℕ → ℕ → Type 0
+CallTold r old number = length (r .kinds) ≤ maxTokens → unsound r ≡ none → maxCode ≤ length old → Told (tokens r) number

@@ -65,7 +65,7 @@ returns c =
     let d = c .before .before in
     let f = found d in
     let s = begin f in
-    turned-down (records s) (s .args .code .now) (s .pre) (bytes (known f)) (wide (known f))
+    turned-down (records s) (s .args .code .now) (s .pre) (bytes (known f)) (wide (known f)) _
     (read-none (records s) (sym (c .enum-told .given .1) ∙ d .read-condition .ensures (records s) (noted f)))
 
 -- and its judgement
@@ -82,11 +82,11 @@ judged-is c =
 
 returns-2 : tie.Need-returns-2
 returns-2 c =
-    let j = c .before .before in
+    let j = c .before .before .before in
     let f = found (read (told j)) in
     let s = begin f in
-    turned-down (records s) (s .args .code .now) (s .pre) (bytes (known f)) (wide (known f))
-    (rule-broken (records s) (s .args .code .now) (s .pre) (bytes (known f)) (wide (known f)) _ (read-is (told j)) (sym (c .enum-told2 .given .1) ∙ judged-is j))
+    turned-down (records s) (s .args .code .now) (s .pre) (bytes (known f)) (wide (known f)) _
+    (rule-broken (records s) (s .args .code .now) (s .pre) (bytes (known f)) (wide (known f)) _ (read-is (told j)) _ (sym (c .before .r .given .1) ∙ judged-is j))
 
 emit-requires : tie.Need-emit-requires
 emit-requires c κs =
@@ -124,7 +124,7 @@ decode-sound-spec =
     (λ c κs. fits (found (read (c .before))))
     (λ c. search needs)
     (λ c. search needs)
-    returns-2
     emit-requires
+    returns-2
     (λ c. search needs)
     returns-3)

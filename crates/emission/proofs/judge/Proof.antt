@@ -62,12 +62,12 @@ add-bytes c =
 returns : tie.Need-returns Inv-loop μ-loop
 returns c numbers places keys noted whole =
     let a = c .before .before in
-    judged-later (records a numbers places keys) (start₁ a .args .start) (a .loop .end) (a .loop .bytes) (a .loop .first) (a .loop .later) (a .loop .inv .2 numbers places keys noted whole) (c .before .loop-test .left) (c .if1 .taken)
+    judged-first (records a numbers places keys) (start₁ a .args .start) (a .loop .end) (a .loop .bytes) (a .loop .first) (a .loop .later) (a .loop .inv .2 numbers places keys noted whole) (c .before .loop-test .left) (c .if1 .taken)
 
 returns-2 : tie.Need-returns-2 Inv-loop μ-loop
 returns-2 c numbers places keys noted whole =
     let a = c .before .before .before in
-    judged-first (records a numbers places keys) (start₁ a .args .start) (a .loop .end) (a .loop .bytes) (a .loop .first) (a .loop .later) (a .loop .inv .2 numbers places keys noted whole) (c .before .before .loop-test .left) (c .if2 .taken)
+    judged-later (records a numbers places keys) (start₁ a .args .start) (a .loop .end) (a .loop .bytes) (a .loop .first) (a .loop .later) (a .loop .inv .2 numbers places keys noted whole) (c .before .before .loop-test .left) (c .before .if1 .left) (c .if2 .taken)
 
 returns-3 : tie.Need-returns-3 Inv-loop μ-loop
 returns-3 c numbers places keys noted whole =

@@ -19,4 +19,4 @@ decode-loaded-spec =
     (λ c κs. search needs)
     (λ c κs. search needs)
     (λ c. search needs)
-    (λ c rs e l. decodes rs _ _ _ _ _ _ _ (c .before .before .before .decode .result) (c .before .before .before .before .before .before .before .before .before .before .before .before .before .before .args .count) e (omega arith) l (c .before .before .before .decode .ensures .0) (c .before .before .before .decode .ensures .1) (c .decode-answer2 .ensures)))
+    (λ c rs e l. decodes rs _ _ _ _ _ _ _ (c .before .before .before .decode .result) (c .before .before .before .before .before .before .before .before .before .before .before .before .before .before .args .count) e (omega arith) l (c .before .before .before .decode .ensures .0) (c .before .before .before .decode .ensures .1 .0) (c .before .before .before .decode .ensures .1 .1) (c .decode-answer2 .ensures)))

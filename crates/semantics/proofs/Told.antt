@@ -1,0 +1,115 @@
+-- R-2: what 4, 5 and 11 say of the tokens: `told`, of every list of up to 1,024 sound tokens, and `call-told`, of the call on records.
+use Prim.Native.Nat.{ℕ, _≤_, _<_, _^_}
+use mathlib.Core.Bool.{Bool, true, false, cond}
+use mathlib.Core.Logic.{_⊎_, inl, inr}
+use mathlib.Core.Option.{Option, none, some}
+use mathlib.Core.Path.{_≡_, refl, sym, ap, _∙_}
+use mathlib.Core.List.{List, [], _∷_, _++_, reverse}
+use native.Mathlib.Omega.{arith}
+use borrow.Author.Tests.{le-leb}
+use lib.ListN.{length, drop, length-drop}
+use Rattle.slices.specs.Bytes.{All, Bytes}
+use Rattle.semantics.specs.Check.{answered, checked, condition, firstOf, judged, passedUnless}
+use Rattle.semantics.specs.Code.{code, maxCode, maxTokens}
+use Rattle.semantics.specs.Decode.{Reading, decode, decoded, decodedAs, reading, unlessRuled}
+use Rattle.semantics.specs.FromTokens.{Found, found, fromTokens, nothing}
+use Rattle.semantics.specs.Meaning.{CallTold, FormAt, ListTold, Sound, Told, TurnedDownAt, checkedNumber, decodedNumber, readingNumber}
+use Rattle.semantics.specs.Oracle.{Terminal, among, oracleRule, rule, terminals}
+use Rattle.semantics.specs.Records.{Records, tokens}
+use Rattle.semantics.specs.Refusals.{Refusal, numbered}
+use Rattle.semantics.specs.Token.{Token, form}
+use Rattle.semantics.specs.Trees.{Arith}
+use Rattle.semantics.proofs.Canon.{canon}
+use Rattle.semantics.proofs.Meaning.{call-decodes, form-decoded, found-form, short}
+use Rattle.semantics.proofs.Records.{length-tokens, tokens-sound}
+
+-- the oracle rule turns down with 4 or 5
+abbrev FourOrFive : ℕ → Type 0
+FourOrFive n = (n ≡ 4) ⊎ (n ≡ 5)
+
+rule-number : (c : Arith) (x : Refusal) → oracleRule c ≡ some x → FourOrFive (numbered x .number)
+unfolding oracleRule
+rule-number (Arith.Compare o l r) x = go (terminals l) (terminals r)
+  where
+    five : (b : Bool) → cond b (some Refusal.PriceOracle1Missing) none ≡ some x → FourOrFive (numbered x .number)
+    five true e = inr (cc)
+    five false e = let z : _≡_ {A = ℕ} 0 1 = cc in absurd (omega arith)
+
+    go : (ls rs : List Terminal) → rule ls rs ≡ some x → FourOrFive (numbered x .number)
+    go [] rs e = five (among rs) e
+    go (Terminal.Other ∷ ls) rs e = five (among (ls ++ rs)) e
+    go (Terminal.PriceOracle1 ∷ ls) rs e = five (among (ls ++ rs)) e
+    go (Terminal.PriceOracle1W ∷ ls) rs e = inl (cc)
+
+module _ (ts : List Token) (few : length ts ≤ maxTokens) (sound : All Sound ts) where
+  -- where a tail is the form of a condition, Decode and Check both go by the rule
+  as-check : (b : List ℕ) (n : ℕ) → FormAt ts n b → readingNumber (decode ts) ≡ checkedNumber (checked b)
+  unfolding checked condition judged
+  as-check b n f =
+      let c = f .form .tree in
+      let m : length (drop n ts) ≤ maxTokens = omega (arith, length-drop n ts) in
+      let k : length (form c) ≤ maxTokens = rw (f .form .is) m in
+      rw (form-decoded ts n b f, le-leb (length b) maxCode (short b (drop n ts) m (f .form)), f .form .wellFormed, le-leb (length (form c)) maxTokens k) (go (oracleRule c))
+    where
+      go : (o : Option Refusal) → readingNumber (unlessRuled o (canon (f .form .tree)) n) ≡ checkedNumber (answered (passedUnless (firstOf (o ∷ [])) (f .form .tree)))
+      go none = refl
+      go (some x) = refl
+
+  turned-down : (b : List ℕ) (n : ℕ) → TurnedDownAt ts n b → FourOrFive (readingNumber (decode ts))
+  turned-down b n t = rw (form-decoded ts n b (t .at), t .turned) (rule-number (t .at .form .tree) (t .refusal) (t .turned))
+
+  -- what is read, or not, with the number that it is answered with
+  readable : FourOrFive (readingNumber (decode ts)) → (b : List ℕ) × (n : ℕ) × TurnedDownAt ts n b
+  unfolding decode
+  readable = go (fromTokens (reverse ts)) refl
+    where
+      ruled : (c : Arith) (r : List Token) → fromTokens (reverse ts) ≡ found c r → (o : Option Refusal) → oracleRule c ≡ o
+          → FourOrFive (readingNumber (unlessRuled o c (length r))) → (b : List ℕ) × (n : ℕ) × TurnedDownAt ts n b
+      ruled c r p none q (inl h) = absurd (omega (arith, h))
+      ruled c r p none q (inr h) = absurd (omega (arith, h))
+      ruled c r p (some x) q h =
+          let f = found-form ts sound c r p in
+          (code c, length r, record { at = f .0; refusal = x; turned = ap oracleRule (f .1) ∙ q })
+
+      go : (g : Found Arith) → fromTokens (reverse ts) ≡ g → FourOrFive (readingNumber (reading g)) → (b : List ℕ) × (n : ℕ) × TurnedDownAt ts n b
+      go (found c r) p h = ruled c r p (oracleRule c) refl h
+      go nothing p (inl h) = absurd (omega (arith, h))
+      go nothing p (inr h) = absurd (omega (arith, h))
+
+  unreadable : ((b : List ℕ) (n : ℕ) → FormAt ts n b → ⊥) → readingNumber (decode ts) ≡ 11
+  unfolding decode
+  unreadable never = go (fromTokens (reverse ts)) refl
+    where
+      go : (g : Found Arith) → fromTokens (reverse ts) ≡ g → readingNumber (reading g) ≡ 11
+      go (found c r) p = absurd (never (code c) (length r) (found-form ts sound c r p .0))
+      go nothing p = refl
+
+  -- a form is answered 0, 4 or 5
+  not-11 : (b : List ℕ) (n : ℕ) → FormAt ts n b → readingNumber (decode ts) ≡ 11 → ⊥
+  not-11 b n f e = go (oracleRule (f .form .tree)) refl
+    where
+      by : FourOrFive (readingNumber (decode ts)) → ⊥
+      by (inl h) = omega (arith, e, h)
+      by (inr h) = omega (arith, e, h)
+
+      go : (o : Option Refusal) → oracleRule (f .form .tree) ≡ o → ⊥
+      go none q = let h : readingNumber (decode ts) ≡ 0 = rw (form-decoded ts n b f, q) in omega (arith, e, h)
+      go (some x) q = by (turned-down b n (record { at = f; refusal = x; turned = q }))
+
+-- R-2
+pub told : (ts : List Token) → ListTold ts
+told ts few sound =
+    record {
+      ruled = (readable ts few sound, λ t. turned-down ts few sound (t .0) (t .1) (t .2));
+      asCheck = as-check ts few sound;
+      unread = (λ e b n f. not-11 ts few sound b n f e, unreadable ts few sound);
+    }
+
+-- R-2, of the call
+pub call-told : (r : Records) (old : List ℕ) → Bytes (r .keys) → All (λ n. n < 2 ^ 64) (r .numbers) → CallTold r old (decodedNumber (decoded r old .answer))
+call-told r old bytes wide few all full =
+    rw (call-decodes r old few all full, same (decode (tokens r))) (told (tokens r) (rw length-tokens few) (tokens-sound r bytes wide all))
+  where
+    same : (g : Reading) → decodedNumber (decodedAs old g .answer) ≡ readingNumber g
+    same (Reading.accepted b n) = refl
+    same (Reading.refused x) = refl
