@@ -182,6 +182,31 @@ static void records(void) {
     expect(d.number == 11 && kept(back, 0, sizeof back), "decode_records: no records");
 }
 
+/* Tokens whose keys are all at place 0, over number slices and over records; nothing is written. */
+static void refused_tokens(const uint8_t *kinds, size_t count, uint32_t number) {
+    static const uint64_t numbers[24];
+    static const uint32_t places[24];
+    static const uint8_t keys[32];
+    uint8_t back[COVENANT_MAX_CODE + 8];
+    covenant_record r[24];
+    for (size_t i = 0; i < count; i++) r[i] = (covenant_record){.kind = kinds[i]};
+    memset(back, FILL, sizeof back);
+    covenant_decoded d = covenant_decode(kinds, count, numbers, count, places, count, keys, 32, back, COVENANT_MAX_CODE);
+    expect(d.number == number && d.place == 0 && d.code_bytes == 0 && d.start == 0 && kept(back, 0, sizeof back), "decode: misplaced oracle terminals");
+    d = covenant_decode_records(r, count, keys, 32, back, COVENANT_MAX_CODE);
+    expect(d.number == number && d.place == 0 && d.code_bytes == 0 && d.start == 0 && kept(back, 0, sizeof back), "decode_records: misplaced oracle terminals");
+}
+
+/* 4 where the left side begins with PriceOracle1W, 5 where PriceOracle1 stands on the right, 4 where both do; without the last token 11. */
+static void misplaced_oracles(void) {
+    static const uint8_t both[24] = {26, 25, 26, 2, 28, 15, 32, 33, 3, 34, 27, 27, 35, 25, 26, 2, 28, 15, 32, 33, 3, 34, 27, 14};
+    static const uint8_t first[15] = {26, 25, 26, 2, 28, 15, 32, 33, 3, 34, 27, 27, 35, 2, 14}, right[12] = {2, 25, 26, 2, 28, 15, 32, 33, 3, 34, 27, 14};
+    refused_tokens(first, 15, 4);
+    refused_tokens(right, 12, 5);
+    refused_tokens(both, 24, 4);
+    refused_tokens(both, 23, 11);
+}
+
 /* n oracle terminals joined by BitAnd, Eq 9; the code's length. */
 static size_t terminals_code(uint8_t *code, size_t n) {
     size_t at = 0;
@@ -218,6 +243,7 @@ int main(void) {
     evaluate();
     write_and_decode();
     records();
+    misplaced_oracles();
     most_terminals();
     if (!failures) puts("boundary: the calls from C agree");
     return failures != 0;

@@ -30,6 +30,12 @@ fn main() {
     assert!(code[..19] == five && code[19..].iter().all(|b| *b == 0xa5));
     assert_eq!(covenant::decode(&kinds, &numbers, &places, &[], &mut code).number, 11);
 
+    let right = [2, 25, 26, 2, 28, 15, 32, 33, 3, 34, 27, 14];
+    let key_tokens = |kinds: &[u8], code: &mut [u8]| covenant::decode(kinds, &[0; 12], &[0; 12], &[7; 32], code).number;
+    code.fill(0xa5);
+    assert_eq!((key_tokens(&right, &mut code), key_tokens(&right[..11], &mut code)), (5, 11));
+    assert!(code.iter().all(|b| *b == 0xa5));
+
     let unset = Record { kind: 9, number: 9, place: 9 };
     let token = |kind, number| Record { kind, number, place: 0 };
     let mut records = [unset; 4];
