@@ -79,8 +79,8 @@ covenant_written covenant_write(
     uint32_t *places, size_t places_count, uint8_t *keys, size_t keys_count);
 
 /* Reads the condition that token records end with: its code goes to the front of `code`, which must have room for COVENANT_MAX_CODE bytes; `start` is the
- * record that its form starts with. There are as many records as kinds. Refusals 10, 9, 7, 11. A refusal writes nothing, and nothing is written
- * beyond `code_bytes`. */
+ * record that its form starts with. There are as many records as kinds. Refusals 10, 9, 7, then 4, 5 or 11: 4 and 5 where the records end with the form of a
+ * condition that Check refuses so, 11 where they end with the form of none. A refusal writes nothing, and nothing is written beyond `code_bytes`. */
 covenant_decoded covenant_decode(
     const uint8_t *kinds, size_t kinds_count, const uint64_t *numbers, size_t numbers_count, const uint32_t *places, size_t places_count,
     const uint8_t *keys, size_t keys_count, uint8_t *code, size_t code_count);

@@ -9,7 +9,7 @@ ghost use mathlib.Core.Path.{_≡_};
 ghost use Rattle.semantics.specs.Check.{checked};
 ghost use Rattle.semantics.specs.Decode.{decoded};
 ghost use Rattle.semantics.specs.Evaluate.{evaluated};
-ghost use Rattle.semantics.specs.Meaning.{CallTold, CallUnambiguous};
+ghost use Rattle.semantics.specs.Meaning.{CallToldApart, CallUnambiguous};
 ghost use Rattle.semantics.specs.Write.{Writes, writing, written};
 ghost use Rattle.amounts.specs.Lists.{envOf};
 ghost use Rattle.semantics.specs.Records.{recordsOf};
@@ -92,7 +92,7 @@ pub extern "C" fn covenant_decode(
     ensures { λ r. ⌜ r ≡ decodeAnswer (decoded (recordsOf (now (kinds .entry)) (now (numbers .entry)) (now (places .entry)) (now (keys .entry))) (now (code .entry)) .answer) ⌝ }
     ensures { λ r. ⌜ now (code .exit) ≡ decoded (recordsOf (now (kinds .entry)) (now (numbers .entry)) (now (places .entry)) (now (keys .entry))) (now (code .entry)) .buffer ⌝ }
     ensures { λ r. ⌜ CallUnambiguous (recordsOf (now (kinds .entry)) (now (numbers .entry)) (now (places .entry)) (now (keys .entry))) (now (code .entry)) (AnswerAccepts r (now (code .exit))) ⌝ }
-    ensures { λ r. ⌜ CallTold (recordsOf (now (kinds .entry)) (now (numbers .entry)) (now (places .entry)) (now (keys .entry))) (now (code .entry)) (r .number) ⌝ }
+    ensures { λ r. ⌜ CallToldApart (recordsOf (now (kinds .entry)) (now (numbers .entry)) (now (places .entry)) (now (keys .entry))) (now (code .entry)) (r .number) ⌝ }
 {
     answers::decode_answer(decoder::decode(kinds, numbers, places, keys, code))
 }

@@ -18,13 +18,13 @@ use Rattle.semantics.specs.FromTokens.{Found, found, fromTokens, nothing}
 use Rattle.semantics.specs.Evaluate.{over}
 use Rattle.semantics.specs.Records.{Records, tokenAt, tokens, unsound}
 use Rattle.semantics.specs.Decode.{Decoding, Reading, decode, decoded, decodedAs, reading, unlessRuled}
-use Rattle.semantics.specs.Meaning.{CallAccepts, CallTold, CallUnambiguous, decodedNumber}
+use Rattle.semantics.specs.Meaning.{CallAccepts, CallToldApart, CallUnambiguous, decodedNumber}
 use Rattle.semantics.proofs.Canon.{canon}
 use Rattle.semantics.proofs.Find.{reader-picked, reader-sound}
 use Rattle.semantics.proofs.FromTokens.{arith-reader}
 use Rattle.semantics.proofs.Meaning.{call-decodes, call-unambiguous, decoded-fits}
 use Rattle.semantics.proofs.Records.{length-tokens, tokens-sound}
-use Rattle.semantics.proofs.Told.{call-told}
+use Rattle.semantics.proofs.ToldApart.{call-told-apart}
 use Rattle.productions.specs.Before.{before}
 use Rattle.readers.specs.Readings.{readingOf}
 use Rattle.decoder.specs.Sound.{Ready}
@@ -122,13 +122,13 @@ module _ (r : Records) (old : List ℕ) (bytes : Bytes (r .keys)) (wide : All (�
   abbrev pub Owed : Decoded → List ℕ → Type 0
   Owed d after =
       (_≡_ {A = Decoding} (record { answer = d; buffer = after }) (decoded r old))
-      × (CallUnambiguous r old (CallAccepts d after) × CallTold r old (decodedNumber d))
+      × (CallUnambiguous r old (CallAccepts d after) × CallToldApart r old (decodedNumber d))
 
   owed : (d : Decoded) (after : List ℕ) → _≡_ {A = Decoding} (record { answer = d; buffer = after }) (decoded r old) → Owed d after
   owed d after e = (
     e,
-    subst (λ (x : Decoding). CallUnambiguous r old (CallAccepts (x .answer) (x .buffer)) × CallTold r old (decodedNumber (x .answer))) (sym e)
-        (call-unambiguous r old bytes wide, call-told r old bytes wide),
+    subst (λ (x : Decoding). CallUnambiguous r old (CallAccepts (x .answer) (x .buffer)) × CallToldApart r old (decodedNumber (x .answer))) (sym e)
+        (call-unambiguous r old bytes wide, call-told-apart r old bytes wide),
   )
 
   pub owed-10 : maxTokens < length (r .kinds) → Owed (Decoded.Refused Refusal.TooManyRecords) old

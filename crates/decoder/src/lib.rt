@@ -14,7 +14,7 @@ use semantics::MAX_TOKENS;
 use semantics::Refusal;
 ghost use mathlib.Core.Path.{_≡_};
 ghost use Rattle.semantics.specs.Decode.{decode, decoded, decodedAs};
-ghost use Rattle.semantics.specs.Meaning.{CallAccepts, CallTold, CallUnambiguous, decodedNumber};
+ghost use Rattle.semantics.specs.Meaning.{CallAccepts, CallToldApart, CallUnambiguous, decodedNumber};
 ghost use Rattle.semantics.specs.Records.{recordsOf, tokens};
 ghost use Rattle.decoder.specs.Sound.{Ready};
 
@@ -60,7 +60,7 @@ pub fn decode(
     ensures { λ r. ⌜ CallUnambiguous
         (recordsOf (now (kinds .entry)) (now (numbers .entry)) (now (places .entry)) (now (keys .entry)))
         (now (code .entry)) (CallAccepts r (now (code .exit))) ⌝ }
-    ensures { λ r. ⌜ CallTold
+    ensures { λ r. ⌜ CallToldApart
         (recordsOf (now (kinds .entry)) (now (numbers .entry)) (now (places .entry)) (now (keys .entry)))
         (now (code .entry)) (decodedNumber r) ⌝ }
 {

@@ -11,7 +11,7 @@ use lib.Dec.{leb}
 use Rattle.slices.specs.Bytes.{Bytes}
 use Rattle.semantics.specs.Code.{maxTokens}
 use Rattle.semantics.specs.Decode.{Decoding, decoded}
-use Rattle.semantics.specs.Meaning.{CallAccepts, CallTold, CallUnambiguous, decodedNumber}
+use Rattle.semantics.specs.Meaning.{CallAccepts, CallToldApart, CallUnambiguous, decodedNumber}
 use Rattle.semantics.specs.declared.Decoded.{Decoded}
 use Rattle.semantics.specs.declared.Refusal.{Refusal}
 use Rattle.semantics.specs.Records.{Records}
@@ -36,12 +36,12 @@ module _ (rs : List TokenRecord) (keys old new : List ℕ) (r : DecodeAnswer) wh
   refuses h e f =
       let d : decoded (fieldsOf rs keys) old ≡ record { answer = Decoded.Refused Refusal.TooManyRecords; buffer = old } = too-many-records (fieldsOf rs keys) old (rw length-map h) in
       let many : length (kindsOf rs) ≤ maxTokens → ⊥ = λ few. omega (arith, h, few, length-map rs (λ (t : TokenRecord). t .kind)) in
-      record { answer = rw d e; buffer = rw d f; unambiguous = λ few. absurd (many few); told = λ few. absurd (many few) }
+      record { answer = rw d e; buffer = rw d f; unambiguous = λ few. absurd (many few); toldApart = λ few. absurd (many few) }
 
   pub decodes : (kinds numbers places : List ℕ) (d : Decoded) (count : ℕ) → length rs ≡ count → count ≤ maxTokens → Loaded rs kinds numbers places
       → record { answer = d; buffer = new } ≡ decoded (record { kinds = take count kinds; numbers = take count numbers; places = take count places; keys = keys }) old
       → CallUnambiguous (record { kinds = take count kinds; numbers = take count numbers; places = take count places; keys = keys }) old (CallAccepts d new)
-      → CallTold (record { kinds = take count kinds; numbers = take count numbers; places = take count places; keys = keys }) old (decodedNumber d)
+      → CallToldApart (record { kinds = take count kinds; numbers = take count numbers; places = take count places; keys = keys }) old (decodedNumber d)
       → r ≡ decodeAnswer d → DecodesRecords rs keys old new r
   decodes kinds numbers places d count size h l e u t f =
       let few : loadable (length rs) ≡ count = rw size (loaded-few count h) in
@@ -56,7 +56,7 @@ module _ (rs : List TokenRecord) (keys old new : List ℕ) (r : DecodeAnswer) wh
         answer = f ∙ ap (λ (x : Decoding). decodeAnswer (x .answer)) whole;
         buffer = ap (λ (x : Decoding). x .buffer) whole;
         unambiguous = rw f (answer-unambiguous (fieldsOf rs keys) old d new mine);
-        told = rw number (transport (λ i. CallTold (record { kinds = k i; numbers = m i; places = p i; keys = keys }) old (decodedNumber d)) t);
+        toldApart = rw number (transport (λ i. CallToldApart (record { kinds = k i; numbers = m i; places = p i; keys = keys }) old (decodedNumber d)) t);
       }
     where
       all : (g : TokenRecord → ℕ) → take count (map g rs) ≡ map g rs

@@ -7,7 +7,7 @@ use lib.ListN.{length, take, drop}
 use lib.Dec.{leb}
 use Rattle.semantics.specs.Code.{maxTokens}
 use Rattle.semantics.specs.Decode.{decoded}
-use Rattle.semantics.specs.Meaning.{CallTold, CallUnambiguous}
+use Rattle.semantics.specs.Meaning.{CallToldApart, CallUnambiguous}
 use Rattle.semantics.specs.Write.{Writes, writing, written}
 use Rattle.records.specs.declared.TokenRecord.{TokenRecord}
 use Rattle.records.specs.Fields.{fieldsOf, kindsOf, numbersOf, placesOf, recordsFrom}
@@ -20,7 +20,7 @@ pub record DecodesRecords (rs : List TokenRecord) (keys old new : List ℕ) (r :
   pub answer : r ≡ decodeAnswer (decoded (fieldsOf rs keys) old .answer)
   pub buffer : new ≡ decoded (fieldsOf rs keys) old .buffer
   pub unambiguous : CallUnambiguous (fieldsOf rs keys) old (AnswerAccepts r new)
-  pub told : CallTold (fieldsOf rs keys) old (r .number)
+  pub toldApart : CallToldApart (fieldsOf rs keys) old (r .number)
 
 -- what Write gives back for these records, and what records and keys are then; the records beyond those reported are kept
 pub record WritesRecords (code : List ℕ) (old new : List TokenRecord) (oldKeys newKeys : List ℕ) (r : WriteAnswer) : Type 0 where

@@ -17,7 +17,7 @@ pub mod Forms
 pub mod Records
 pub mod Room
 pub mod Meaning
-pub mod Told
+pub mod ToldApart
 pub mod RoundTrip
 pub mod Run
 pub mod Examples

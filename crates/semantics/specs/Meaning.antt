@@ -1,6 +1,6 @@
 -- DEMAND 3: no token sequence carries two meanings. One statement about a whole token list, `Unambiguous`. That it holds of the decoder of token lists
 -- (`ListUnambiguous`) and of the call on records (`CallUnambiguous`) is proved in proofs/Meaning.antt (`unambiguous`, `call-unambiguous`).
--- R-2: what a decoder's 4, 5 and 11 say of the token list, `Told`; proved in proofs/Told.antt of both (`told`, `call-told`).
+-- R-2: what a decoder's 4, 5 and 11 say of the token list, `ToldApart`; proved in proofs/ToldApart.antt of both (`told-apart`, `call-told-apart`).
 use Prim.Native.Nat.{ℕ, zero, suc, _<_, _≤_, _^_}
 use mathlib.Core.Bool.{true}
 use mathlib.Core.Option.{none, some}
@@ -97,7 +97,7 @@ pub record TurnedDownAt (ts : List Token) (n : ℕ) (b : List ℕ) : Type 0 wher
   pub turned : oracleRule (at .form .tree) ≡ some refusal
 
 -- of a decoder of ts that answers this number
-pub record Told (ts : List Token) (number : ℕ) : Type 0 where
+pub record ToldApart (ts : List Token) (number : ℕ) : Type 0 where
   -- "If a tail is the form of a condition that only the oracle rule turns down, Decode returns 4 or 5", and nowhere else
   pub ruled : ((number ≡ 4) ⊎ (number ≡ 5)) ↔ ((b : List ℕ) × (n : ℕ) × TurnedDownAt ts n b)
   -- "as Check would": it is the number that Check answers for every condition that has a tail for its form
@@ -106,8 +106,8 @@ pub record Told (ts : List Token) (number : ℕ) : Type 0 where
   pub unread : (number ≡ 11) ↔ ((b : List ℕ) (n : ℕ) → FormAt ts n b → ⊥)
 
 -- owed where demand 3 is: of every list of up to 1,024 sound tokens, and of a call on up to 1,024 sound records with a full-sized buffer
-abbrev pub ListTold : List Token → Type 0
-ListTold ts = length ts ≤ maxTokens → All Sound ts → Told ts (readingNumber (decode ts))
+abbrev pub ListToldApart : List Token → Type 0
+ListToldApart ts = length ts ≤ maxTokens → All Sound ts → ToldApart ts (readingNumber (decode ts))
 
-abbrev pub CallTold : Records → List ℕ → ℕ → Type 0
-CallTold r old number = length (r .kinds) ≤ maxTokens → unsound r ≡ none → maxCode ≤ length old → Told (tokens r) number
+abbrev pub CallToldApart : Records → List ℕ → ℕ → Type 0
+CallToldApart r old number = length (r .kinds) ≤ maxTokens → unsound r ≡ none → maxCode ≤ length old → ToldApart (tokens r) number

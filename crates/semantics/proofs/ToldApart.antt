@@ -1,4 +1,4 @@
--- R-2: what 4, 5 and 11 say of the tokens: `told`, of every list of up to 1,024 sound tokens, and `call-told`, of the call on records.
+-- R-2: what 4, 5 and 11 say of the tokens: `told-apart`, of every list of up to 1,024 sound tokens, and `call-told-apart`, of the call on records.
 use Prim.Native.Nat.{ℕ, _≤_, _<_, _^_}
 use mathlib.Core.Bool.{Bool, true, false, cond}
 use mathlib.Core.Logic.{_⊎_, inl, inr}
@@ -13,7 +13,7 @@ use Rattle.semantics.specs.Check.{answered, checked, condition, firstOf,
 use Rattle.semantics.specs.Code.{code, maxCode, maxTokens}
 use Rattle.semantics.specs.Decode.{Reading, decode, decoded, decodedAs, reading, unlessRuled}
 use Rattle.semantics.specs.FromTokens.{Found, found, fromTokens, nothing}
-use Rattle.semantics.specs.Meaning.{CallTold, FormAt, ListTold, Sound, Told, TurnedDownAt, checkedNumber, decodedNumber, readingNumber}
+use Rattle.semantics.specs.Meaning.{CallToldApart, FormAt, ListToldApart, Sound, TurnedDownAt, checkedNumber, decodedNumber, readingNumber}
 use Rattle.semantics.specs.Oracle.{Terminal, among, oracleRule, rule, terminals}
 use Rattle.semantics.specs.Records.{Records, tokens}
 use Rattle.semantics.specs.Refusals.{Refusal, numbered}
@@ -97,8 +97,8 @@ module _ (ts : List Token) (few : length ts ≤ maxTokens) (sound : All Sound ts
       go (some x) q = by (turned-down b n (record { at = f; refusal = x; turned = q }))
 
 -- R-2
-pub told : (ts : List Token) → ListTold ts
-told ts few sound =
+pub told-apart : (ts : List Token) → ListToldApart ts
+told-apart ts few sound =
     record {
       ruled = (readable ts few sound, λ t. turned-down ts few sound (t .0) (t .1) (t .2));
       asCheck = as-check ts few sound;
@@ -106,9 +106,9 @@ told ts few sound =
     }
 
 -- R-2, of the call
-pub call-told : (r : Records) (old : List ℕ) → Bytes (r .keys) → All (λ n. n < 2 ^ 64) (r .numbers) → CallTold r old (decodedNumber (decoded r old .answer))
-call-told r old bytes wide few all full =
-    rw (call-decodes r old few all full, same (decode (tokens r))) (told (tokens r) (rw length-tokens few) (tokens-sound r bytes wide all))
+pub call-told-apart : (r : Records) (old : List ℕ) → Bytes (r .keys) → All (λ n. n < 2 ^ 64) (r .numbers) → CallToldApart r old (decodedNumber (decoded r old .answer))
+call-told-apart r old bytes wide few all full =
+    rw (call-decodes r old few all full, same (decode (tokens r))) (told-apart (tokens r) (rw length-tokens few) (tokens-sound r bytes wide all))
   where
     same : (g : Reading) → decodedNumber (decodedAs old g .answer) ≡ readingNumber g
     same (Reading.accepted b n) = refl
