@@ -7,7 +7,7 @@ use records::store;
 use semantics::MAX_TOKENS;
 ghost use Rattle.fields.specs.TokenRecords.{DecodesRecords, WritesRecords};
 
-// Decode over records: `records` and `keys` are only read, and `code` is written as `covenant_decode` writes it. Refusals 10, 9, 7, 11.
+// Decode over records: `records` and `keys` are only read, and `code` is written as `covenant_decode` writes it. Refusals 10, 9, 7, then 4, 5 or 11.
 #[no_mangle]
 pub extern "C" fn covenant_decode_records(
     records: &[TokenRecord],

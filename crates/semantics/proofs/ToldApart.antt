@@ -23,10 +23,14 @@ use Rattle.semantics.proofs.Canon.{canon}
 use Rattle.semantics.proofs.Meaning.{call-decodes, form-decoded, found-form, short}
 use Rattle.semantics.proofs.Records.{length-tokens, tokens-sound}
 
--- the oracle rule turns down with 4 or 5
 abbrev FourOrFive : ℕ → Type 0
 FourOrFive n = (n ≡ 4) ⊎ (n ≡ 5)
 
+between : (n : ℕ) → FourOrFive n → (4 ≤ n) × (n ≤ 5)
+between n (inl e) = (omega (arith, e), omega (arith, e))
+between n (inr e) = (omega (arith, e), omega (arith, e))
+
+-- the oracle rule turns down with 4 or 5
 rule-number : (c : Arith) (x : Refusal) → oracleRule c ≡ some x → FourOrFive (numbered x .number)
 unfolding oracleRule
 rule-number (Arith.Compare o l r) x = go (terminals l) (terminals r)
@@ -42,8 +46,11 @@ rule-number (Arith.Compare o l r) x = go (terminals l) (terminals r)
     go (Terminal.PriceOracle1W ∷ ls) rs e = inl (cc)
 
 module _ (ts : List Token) (few : length ts ≤ maxTokens) (sound : All Sound ts) where
+  abbrev number : ℕ
+  number = readingNumber (decode ts)
+
   -- where a tail is the form of a condition, Decode and Check both go by the rule
-  as-check : (b : List ℕ) (n : ℕ) → FormAt ts n b → readingNumber (decode ts) ≡ checkedNumber (checked b)
+  as-check : (b : List ℕ) (n : ℕ) → FormAt ts n b → number ≡ checkedNumber (checked b)
   unfolding checked condition judged
   as-check b n f =
       let c = f .form .tree in
@@ -55,46 +62,50 @@ module _ (ts : List Token) (few : length ts ≤ maxTokens) (sound : All Sound ts
       go none = refl
       go (some x) = refl
 
-  turned-down : (b : List ℕ) (n : ℕ) → TurnedDownAt ts n b → FourOrFive (readingNumber (decode ts))
+  -- so it is answered 0, or it is turned down with 4 or 5
+  turned-down : (b : List ℕ) (n : ℕ) → TurnedDownAt ts n b → FourOrFive number
   turned-down b n t = rw (form-decoded ts n b (t .at), t .turned) (rule-number (t .at .form .tree) (t .refusal) (t .turned))
 
-  -- what is read, or not, with the number that it is answered with
-  readable : FourOrFive (readingNumber (decode ts)) → (b : List ℕ) × (n : ℕ) × TurnedDownAt ts n b
+  passes-or-not : (b : List ℕ) (n : ℕ) → FormAt ts n b → (number ≡ 0) ⊎ TurnedDownAt ts n b
+  passes-or-not b n f = go (oracleRule (f .form .tree)) refl
+    where
+      go : (o : Option Refusal) → oracleRule (f .form .tree) ≡ o → (number ≡ 0) ⊎ TurnedDownAt ts n b
+      go none e = inl (rw (form-decoded ts n b f, e))
+      go (some x) e = inr (record { at = f; refusal = x; turned = e })
+
+  not-11 : (b : List ℕ) (n : ℕ) → FormAt ts n b → number ≡ 11 → ⊥
+  not-11 b n f e = go (passes-or-not b n f)
+    where
+      go : (number ≡ 0) ⊎ TurnedDownAt ts n b → ⊥
+      go (inl h) = omega (arith, e, h)
+      go (inr t) = omega (arith, e, between number (turned-down b n t))
+
+  -- and where none is, 11
+  read-or-11 : ((b : List ℕ) × (n : ℕ) × FormAt ts n b) ⊎ (number ≡ 11)
   unfolding decode
-  readable = go (fromTokens (reverse ts)) refl
+  read-or-11 = go (fromTokens (reverse ts)) refl
     where
-      ruled : (c : Arith) (r : List Token) → fromTokens (reverse ts) ≡ found c r → (o : Option Refusal) → oracleRule c ≡ o
-          → FourOrFive (readingNumber (unlessRuled o c (length r))) → (b : List ℕ) × (n : ℕ) × TurnedDownAt ts n b
-      ruled c r p none q (inl h) = absurd (omega (arith, h))
-      ruled c r p none q (inr h) = absurd (omega (arith, h))
-      ruled c r p (some x) q h =
-          let f = found-form ts sound c r p in
-          (code c, length r, record { at = f .0; refusal = x; turned = ap oracleRule (f .1) ∙ q })
+      go : (g : Found Arith) → fromTokens (reverse ts) ≡ g → ((b : List ℕ) × (n : ℕ) × FormAt ts n b) ⊎ (readingNumber (reading g) ≡ 11)
+      go (found c r) e = inl (code c, length r, found-form ts sound c r e .0)
+      go nothing e = inr refl
 
-      go : (g : Found Arith) → fromTokens (reverse ts) ≡ g → FourOrFive (readingNumber (reading g)) → (b : List ℕ) × (n : ℕ) × TurnedDownAt ts n b
-      go (found c r) p h = ruled c r p (oracleRule c) refl h
-      go nothing p (inl h) = absurd (omega (arith, h))
-      go nothing p (inr h) = absurd (omega (arith, h))
-
-  unreadable : ((b : List ℕ) (n : ℕ) → FormAt ts n b → ⊥) → readingNumber (decode ts) ≡ 11
-  unfolding decode
-  unreadable never = go (fromTokens (reverse ts)) refl
+  readable : FourOrFive number → (b : List ℕ) × (n : ℕ) × TurnedDownAt ts n b
+  readable h = go read-or-11
     where
-      go : (g : Found Arith) → fromTokens (reverse ts) ≡ g → readingNumber (reading g) ≡ 11
-      go (found c r) p = absurd (never (code c) (length r) (found-form ts sound c r p .0))
-      go nothing p = refl
+      ruled : (b : List ℕ) (n : ℕ) → (number ≡ 0) ⊎ TurnedDownAt ts n b → (b : List ℕ) × (n : ℕ) × TurnedDownAt ts n b
+      ruled b n (inl e) = absurd (omega (arith, e, between number h))
+      ruled b n (inr t) = (b, n, t)
 
-  -- a form is answered 0, 4 or 5
-  not-11 : (b : List ℕ) (n : ℕ) → FormAt ts n b → readingNumber (decode ts) ≡ 11 → ⊥
-  not-11 b n f e = go (oracleRule (f .form .tree)) refl
+      go : ((b : List ℕ) × (n : ℕ) × FormAt ts n b) ⊎ (number ≡ 11) → (b : List ℕ) × (n : ℕ) × TurnedDownAt ts n b
+      go (inl f) = ruled (f .0) (f .1) (passes-or-not (f .0) (f .1) (f .2))
+      go (inr e) = absurd (omega (arith, e, between number h))
+
+  unreadable : ((b : List ℕ) (n : ℕ) → FormAt ts n b → ⊥) → number ≡ 11
+  unreadable never = go read-or-11
     where
-      by : FourOrFive (readingNumber (decode ts)) → ⊥
-      by (inl h) = omega (arith, e, h)
-      by (inr h) = omega (arith, e, h)
-
-      go : (o : Option Refusal) → oracleRule (f .form .tree) ≡ o → ⊥
-      go none q = let h : readingNumber (decode ts) ≡ 0 = rw (form-decoded ts n b f, q) in omega (arith, e, h)
-      go (some x) q = by (turned-down b n (record { at = f; refusal = x; turned = q }))
+      go : ((b : List ℕ) × (n : ℕ) × FormAt ts n b) ⊎ (number ≡ 11) → number ≡ 11
+      go (inl f) = absurd (never (f .0) (f .1) (f .2))
+      go (inr e) = e
 
 -- R-2
 pub told-apart : (ts : List Token) → ListToldApart ts
