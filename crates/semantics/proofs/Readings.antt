@@ -105,12 +105,12 @@ shownDecoded (Decoded.Code n start) = n ∷ start ∷ []
 shownDecoded (Decoded.Refused r) = refused r
 
 -- where the tail begins, or the refusal
-abbrev shownReading : Reading → List ℕ
-shownReading (Reading.accepted b start) = 0 ∷ start ∷ []
-shownReading (Reading.refused r) = refused r
+abbrev shownTail : Reading → List ℕ
+shownTail (Reading.accepted b start) = 0 ∷ start ∷ []
+shownTail (Reading.refused r) = refused r
 
-abbrev read : List Token → List ℕ
-read ts = shownReading (decode ts)
+abbrev tailOf : List Token → List ℕ
+tailOf ts = shownTail (decode ts)
 
 abbrev formOf : Expr → Expr → List Token
 formOf x y = form (Arith.Compare CmpOp.Eq x y)
@@ -234,9 +234,9 @@ readings =
     ∷ (decodedAnswer (record { kinds = 2 ∷ 2 ∷ 14 ∷ []; numbers = 5 ∷ 5 ∷ 0 ∷ []; places = 0 ∷ 0 ∷ []; keys = [] }), 9 ∷ 2 ∷ 0 ∷ [])
     ∷ (decodedAnswer (records (2 ∷ 2 ∷ 14 ∷ [])), bare 7)
     -- R-2: where both rules are broken, 4, as Check; what stands before the tail is not judged; where no tail can be read, 11
-    ∷ (read (formOf (Expr.PriceOracle1W key 5) (Expr.PriceOracle1 key 5)), bare 4) ∷ (place (checked (eq (Expr.PriceOracle1W key 5) (Expr.PriceOracle1 key 5))), bare 4)
-    ∷ (read (formOf (Expr.Const 5) (Expr.PriceOracle1 key 5)), bare 5) ∷ (read (exprForm (Expr.PriceOracle1W key 5) ++ formOf (Expr.Const 5) (Expr.Const 5)), 0 ∷ 13 ∷ [])
-    ∷ (read (formOf (Expr.Const 5) (Expr.Const 5) ++ formOf (Expr.Const 5) (Expr.PriceOracle1 key 5)), bare 5) ∷ (read (exprForm (Expr.PriceOracle1W key 5)), bare 11) ∷ []
+    ∷ (tailOf (formOf (Expr.PriceOracle1W key 5) (Expr.PriceOracle1 key 5)), bare 4) ∷ (place (checked (eq (Expr.PriceOracle1W key 5) (Expr.PriceOracle1 key 5))), bare 4)
+    ∷ (tailOf (formOf (Expr.Const 5) (Expr.PriceOracle1 key 5)), bare 5) ∷ (tailOf (exprForm (Expr.PriceOracle1W key 5) ++ formOf (Expr.Const 5) (Expr.Const 5)), 0 ∷ 13 ∷ [])
+    ∷ (tailOf (formOf (Expr.Const 5) (Expr.Const 5) ++ formOf (Expr.Const 5) (Expr.PriceOracle1 key 5)), bare 5) ∷ (tailOf (exprForm (Expr.PriceOracle1W key 5)), bare 11) ∷ []
 
 pub readings-right : map (λ (e : List ℕ × List ℕ). e .0) readings ≡ map (λ (e : List ℕ × List ℕ). e .1) readings
 unfolding readings checkedAdd checkedSub checkedMul idxAdd idxSub idxMul idxDiv littleEndian bytesValue idxForm exprForm form idxCode exprCode code commandOf instructions parse idxHeadForm idxHead idxWithin idxFromTokens headForm head exprWithin exprFromTokens comparison fromTokens terminals oracleRule oracles index amount oracle eval evalArith decode initial judged condition checked evaluatedTree evaluated writing tokensFrom unsoundFrom decoded
