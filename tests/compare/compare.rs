@@ -34,7 +34,7 @@ fn too_long(f: &[&str]) -> bool {
 }
 
 /// The published Rust answers None both where no tail can be read (11) and where its oracle rule turns the condition down (4 or 5).
-fn told_apart<'a>(call: &str, answer: &'a str) -> &'a str {
+fn alike<'a>(call: &str, answer: &'a str) -> &'a str {
     if call == "D" && (answer == "4" || answer == "5") { "11" } else { answer }
 }
 
@@ -92,7 +92,7 @@ fn run() -> i32 {
         for part in far(&f) {
             *parts.entry((f[0].into(), part)).or_default() += 1;
         }
-        if wanted != told_apart(f[0], &given) && differs.as_ref().map_or(true, |d| case.len() < d.len()) {
+        if wanted != alike(f[0], &given) && differs.as_ref().map_or(true, |d| case.len() < d.len()) {
             differs = Some(format!("{case}\n  wanted {wanted}\n  ours   {given}"));
         }
     });
