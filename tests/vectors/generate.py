@@ -328,12 +328,14 @@ def rules_told():
     for _ in range(200):
         decoded_as_checked(small(condition(3, "oobuc")))
     first, later = (32, KEY, 5), (33, KEY, 5)
-    for t in (
-        (48, later, FIVE), (48, (22, later, FIVE), FIVE), (48, (30, later), FIVE), (48, later, first), (48, (22, later, first), FIVE), (48, (22, later, later), first),  # 4
-        (48, (22, FIVE, first), FIVE), (48, FIVE, first), (48, first, first), (48, (22, first, first), FIVE), (48, (17,), first), (48, (18, (2,)), (22, later, first)),  # 5
-        (48, (22, (18, (3, (2,), (1, 1))), later), first), (48, FIVE, (22, FIVE, (31, first))),
-        (48, first, later), (48, FIVE, later), (48, (22, FIVE, later), later), (48, (22, first, later), (22, later, FIVE)), (48, (18, (2,)), later),  # neither
+    for number, left, right in (
+        (4, later, FIVE), (4, (22, later, FIVE), FIVE), (4, (30, later), FIVE), (4, later, first), (4, (22, later, first), FIVE), (4, (22, later, later), first),
+        (5, (22, FIVE, first), FIVE), (5, FIVE, first), (5, first, first), (5, (22, first, first), FIVE), (5, (17,), first), (5, (18, (2,)), (22, later, first)),
+        (5, (22, (18, (3, (2,), (1, 1))), later), first), (5, FIVE, (22, FIVE, (31, first))),
+        (0, first, later), (0, FIVE, later), (0, (22, FIVE, later), later), (0, (22, first, later), (22, later, FIVE)), (0, (18, (2,)), later),
     ):
+        t = (48, left, right)
+        told(model.check(code_of(t))[0], number)
         for own in (FIVE, first, later, (22, first, FIVE), (48, later, first), (48, FIVE, FIVE)):  # what stands before the tail is not judged
             decoded_as_checked(t, form(own))
         decoded_as_checked(t)
