@@ -79,19 +79,20 @@ def turned_down():
 
 
 def commands():
-    """The number of commands of each line's condition."""
-    counts = []
+    """The commands of each line's condition, with their operands."""
+    lines = []
     for l in open(SHAPES):
-        code, at, n = bytes.fromhex(l.split()[2]), 0, 0
+        code, at, found = bytes.fromhex(l.split()[2]), 0, []
         while at < len(code):
-            at += {1: 9, 16: 9, 32: 41, 33: 41}.get(code[at], 1)
-            n += 1
-        counts.append(n)
-    return counts
+            end = at + {1: 9, 16: 9, 32: 41, 33: 41}.get(code[at], 1)
+            found.append(code[at:end])
+            at = end
+        lines.append(found)
+    return lines
 
 
 def both(rows):
-    """{(shape, size): (tokens, ns of ours, of theirs, instructions of ours, of theirs, commands)}"""
+    """{(shape, size): (tokens, ns of ours, of theirs, instructions of ours, of theirs, commands, keys of the oracle terminals)}"""
     run(os.path.join(ROOT, "tests", "compare", "build.sh"), os.path.join(ROOT, "target", "compare"))
     ours, theirs = os.path.join(OUT, "calls"), os.path.join(ROOT, "target", "compare", "bench")
     times = [[int(f) for f in l.split()[2:]] for l in run(theirs, SHAPES).splitlines()]
@@ -99,7 +100,8 @@ def both(rows):
         a = [[pool.submit(instructions, OURS[c], ours, SHAPES, str(n), str(c)) for c in range(4)] for n in range(len(times))]
         b = [[pool.submit(instructions, THEIRS[c], theirs, SHAPES, str(n), str(c)) for c in range(4)] for n in range(len(times))]
     result = lambda jobs: [j.result() for j in jobs]
-    return {k: (rows[k][0], rows[k][2], times[n], result(a[n]), result(b[n]), m) for n, (k, m) in enumerate(zip(rows, commands()))}
+    keys = lambda m: [c[1:33] for c in m if c[0] in (32, 33)]
+    return {k: (rows[k][0], rows[k][2], times[n], result(a[n]), result(b[n]), len(m), keys(m)) for n, (k, m) in enumerate(zip(rows, commands()))}
 
 
 def slots():
@@ -153,8 +155,8 @@ def memory(rows, refused, cases, readers):
     out += paragraph("Stack is the high-water mark of a painted stack over the conditions and the token lists below, and over every case of crates/vectors, refused or not. Only Decode "
                      "has functions that call themselves: its readers, at most once for each four tokens and once more. The token lists of the last table take them as deep as that. The proofs "
                      "say nothing about the stack: who calls must have what stands here.")
-    out += paragraph("Lent is what the caller provides for the largest condition. Amounts: %d slots a list are assumed, and a transaction with more asks for more. Decode takes as many "
-                     "key bytes as the caller has; %d keys are those of the largest condition. All is stack, lent and archive." % (SLOTS, oracles))
+    out += paragraph("Lent is what the caller provides for the largest condition. Amounts: %d slots a list are assumed, and a transaction with more asks for more. Keys: Write asks for 32 bytes "
+                     "for each different key, at most %d; Decode takes as many key bytes as the caller has. All is stack, lent and archive." % (SLOTS, oracles))
     out += paragraph("The columns for %d tokens are computed: what is lent for a bound of %d tokens and %d code bytes, and the stack at %d tokens with the growth of the calls' own arrays "
                      "(%s bytes a token) and of the readers' frames (%d bytes for each four tokens; the gate fails where a frame grows)."
                      % (LONGER, LONGER, scale * code, tokens, ", ".join("%s %d" % p for p in ARRAYS.items() if p[1]), 4 * frame))
@@ -192,7 +194,8 @@ WHY = {
     "Check": "`Arith::new` judges the oracle rule of a tree that is there, and does not go into index expressions; ours reads every command with its operands, judges its need, and counts tokens.",
     "Evaluate": "the Rust goes over a tree that was built and judged before; ours is given bytes that may be anything, so that each call has a Check in it. A condition with many tokens also has two "
                 "operand stacks of 1,024 to clear, which weighs most where it is not much longer than the conditions that get short ones.",
-    "Write": "it has a Check in it, then a pass that marks left operands of index Mul and Div, then the pass that writes records of three fields; the Rust writes bytes.",
+    "Write": "it has a Check in it, then a pass that marks left operands of index Mul and Div, then one that finds the different keys, then the pass that writes records of three fields and "
+             "the keys; the Rust writes bytes.",
     "Decode": "a refusal must not write, so that a form is gone over four times: when the row before each place is noted, by the readers, by the judge of the oracle rule, and when its code is written.",
 }
 
@@ -223,6 +226,32 @@ def above(rows):
     return out + [""]
 
 
+def searched(keys):
+    """How often Write compares two keys: to find the different ones, and to place the records."""
+    known, found, placed = [], 0, 0
+    for k in keys:
+        found += known.index(k) + 1 if k in known else len(known)
+        if k not in known:
+            known.append(k)
+        placed += known.index(k) + 1
+    return found, placed
+
+
+def search(rows):
+    """The section on equal keys."""
+    one, many = rows["oracle", 1024], rows["oracle keys", 1024]
+    out = ["## The search for equal keys", ""]
+    out += paragraph("Write stores equal keys once, so that it looks for the key of each oracle terminal among the different ones before it, and again to place the record. This search is all that "
+                     "grows faster than tokens or commands. For n terminals it compares two keys n(n - 1)/2 times and n(n + 1)/2 times where all keys differ, n - 1 times and n times where all are "
+                     "equal. The keys of `oracle keys` differ in their last two bytes alone.")
+    out += ["| condition | oracle terminals | different keys | comparisons to find them | to place the records | instructions of Write |", "|---|---|---|---|---|---|"]
+    for s, r in (("oracle", one), ("oracle keys", many)):
+        out.append("| %s | %d | %d | %d | %d | %.0f |" % (s, len(r[6]), len(set(r[6])), *searched(r[6]), r[3][2]))
+    comparisons, more = sum(searched(many[6])) - sum(searched(one[6])), many[3][2] - one[3][2]
+    return out + [""] + paragraph("The second takes %.0f instructions more: %.1f for each of its %d further comparisons, the copying of %d further keys included." % (
+        more, more / comparisons, comparisons, len(set(many[6])) - len(set(one[6]))))
+
+
 def speed(rows, refused, lent):
     out = ["# Speed", ""]
     out += paragraph("Measured by `make bench`, both sides in one run: the archive, and the published Rust over the stand-ins of tests/compare, compiled with -O. Instructions are those of "
@@ -234,7 +263,7 @@ def speed(rows, refused, lent):
         out += ["## " + name, "", "| condition | tokens | commands | ours | Rust | ratio | ns ours | ns Rust |", "|---|---|---|---|---|---|---|---|"]
         for s in shapes(rows):
             for size in SIZES:
-                tokens, mine, ns, a, b, commands = rows[s, size]
+                tokens, mine, ns, a, b, commands = rows[s, size][:6]
                 out.append("| %s | %d | %d | %.0f | %.0f | %.2f | %d | %d |" % (s, tokens, commands, a[c], b[c], a[c] / b[c], mine[c], ns[c]))
         out.append("")
     out += ["## The same job on both sides", ""]
@@ -250,7 +279,8 @@ def speed(rows, refused, lent):
     for s in shapes(rows):
         small, large = rows[s, 256], rows[s, 1024]
         out.append("| %s | %s |" % (s, " | ".join("%.2f" % (large[3][c] / large[0] / (small[3][c] / small[0])) for c in range(4))))
-    out += ["", "## Against %d ms" % UNIT_MS, ""]
+    out += [""] + search(rows)
+    out += ["## Against %d ms" % UNIT_MS, ""]
     out += paragraph("A call of the unit may take %d ms. The slowest that was measured of each call, at one instruction a nanosecond; Decode also on the token lists that docs/MEMORY.md "
                      "names." % UNIT_MS)
     out += ["| call | given | instructions | ms |", "|---|---|---|---|"]

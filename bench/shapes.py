@@ -1,7 +1,7 @@
 #!/usr/bin/env python3
-"""shapes.py: prints the conditions that are measured, a line each: shape, tokens, code in hex. Left-deep chains of add, and, index steps and oracles, and the deepest
-nestings: Invert, And and index Add nested to the right, index Add nested to the left; and Add and index Mul nested to the right, where Decode's readers go deepest. Last
-a left-deep chain of and over quotients, and one over remainders, of the four pairs of signs in turn.
+"""shapes.py: prints the conditions that are measured, a line each: shape, tokens, code in hex. Left-deep chains of add, and, index steps and oracles, with one key and with keys
+that differ in their end alone, and the deepest nestings: Invert, And and index Add nested to the right, index Add nested to the left; and Add and index Mul nested to the right,
+where Decode's readers go deepest. Last a left-deep chain of and over quotients, and one over remainders, of the four pairs of signs in turn.
 shapes.py refused: prints token lists that Decode refuses with 11, a line each: shape, tokens, kinds in hex; every Num is 1. An operation of several tokens that finds no
 operand is what takes Decode's readers deepest: they call themselves once for each; the operands of an operation of one token are counted."""
 import os
@@ -30,11 +30,17 @@ def divided(c, i):
     return (c, *((16, n % 2**64) for n in SIGNS[i % 4]))
 
 
+def key(i):
+    """Keys that a search comparing from the front tells apart last."""
+    return KEY[:30] + i.to_bytes(2, "big")
+
+
 SHAPES = {
     "add": lambda n: chain(ONE, lambda t, i: (22, t, ONE), n),
     "and": lambda n: chain(ONE, lambda t, i: (27, t, ONE), n),
     "index": lambda n: (18, chain((1, 0), lambda t, i: (STEPS[i % 6], t, (1, 1)), n)),
     "oracle": lambda n: chain((32, KEY, 9), lambda t, i: (27, t, (33, KEY, 9)), n),
+    "oracle keys": lambda n: chain((32, key(0), 9), lambda t, i: (27, t, (33, key(i + 1), 9)), n),
     "invert": lambda n: chain(ONE, lambda t, i: (30, t), n),
     "and right": lambda n: chain(ONE, lambda t, i: (27, ONE, t), n),
     "index right": lambda n: (18, chain((1, 0), lambda t, i: (3, (1, 0), t), n)),

@@ -207,12 +207,13 @@ static void misplaced_oracles(void) {
     refused_tokens(both, 23, 11);
 }
 
-/* n oracle terminals joined by BitAnd, Eq 9; the code's length. */
-static size_t terminals_code(uint8_t *code, size_t n) {
+/* n oracle terminals joined by BitAnd, Eq 9; a key is 31 bytes of 7 and the terminal's byte of `last`. The code's length. */
+static size_t terminals_code(uint8_t *code, const uint8_t *last, size_t n) {
     size_t at = 0;
     for (size_t i = 0; i < n; i++) {
         memset(code + at, 7, 41);
         code[at] = i ? 33 : 32;
+        code[at + 32] = last[i];
         at += 41;
         if (i) code[at++] = 27;
     }
@@ -221,21 +222,105 @@ static size_t terminals_code(uint8_t *code, size_t n) {
     return at + 10;
 }
 
+/* The keys that end with these bytes, one after the other; their length. */
+static size_t keys_of(uint8_t *keys, const uint8_t *last, size_t n) {
+    memset(keys, 7, 32 * n);
+    for (size_t i = 0; i < n; i++) keys[32 * i + 31] = last[i];
+    return 32 * n;
+}
+
+/* Three oracle terminals, by the last bytes of their keys; what Write must leave: the keys, by theirs, and the place of each terminal's. */
+typedef struct { uint8_t last[3], left[3]; size_t count; uint32_t at[3]; } key_case;
+enum { THREE = 42 * 3 + 9, THREE_TOKENS = 10 + 2 * 14 + 2, THREE_ROOM = THREE_TOKENS + 2 };
+
+static int read_back(covenant_decoded d, const uint8_t *back, const uint8_t *code) {
+    return d.number == 0 && d.code_bytes == THREE && d.start == 0 && !memcmp(back, code, THREE) && kept(back, THREE, COVENANT_MAX_CODE);
+}
+
+/* Decode must read the same with the keys that Write leaves and with a key for each terminal, as it left them before R-5. */
+static void key_order(const key_case *k) {
+    uint8_t code[THREE], kinds[THREE_ROOM], keys[32 * 3 + 8], known[32 * 3], back[COVENANT_MAX_CODE];
+    uint64_t numbers[THREE_ROOM];
+    uint32_t places[THREE_ROOM];
+    size_t bytes = keys_of(known, k->left, k->count), seen = 0;
+    terminals_code(code, k->last, 3);
+    memset(kinds, FILL, sizeof kinds);
+    memset(numbers, FILL, sizeof numbers);
+    memset(places, FILL, sizeof places);
+    memset(keys, FILL, sizeof keys);
+    memset(back, FILL, sizeof back);
+    covenant_written w = covenant_write(code, THREE, kinds, THREE_ROOM, numbers, THREE_ROOM, places, THREE_ROOM, keys, bytes - 1);
+    expect(w.number == 7 && w.records == 0 && w.key_bytes == 0 && ALL_KEPT, "write: a key byte too few");
+    w = covenant_write(code, THREE, kinds, THREE_ROOM, numbers, THREE_ROOM, places, THREE_ROOM, keys, bytes);
+    expect(w.number == 0 && w.records == THREE_TOKENS && w.key_bytes == bytes, "write: three oracle terminals");
+    expect(!memcmp(keys, known, bytes) && kept(keys, bytes, sizeof keys) && kept(places, THREE_TOKENS * 4, sizeof places), "write: keys in token order");
+    covenant_decoded d = covenant_decode(kinds, THREE_TOKENS, numbers, THREE_TOKENS, places, THREE_TOKENS, keys, bytes, back, sizeof back);
+    expect(read_back(d, back, code), "decode: keys in token order");
+    for (size_t i = 0; i < THREE_TOKENS; i++) {
+        expect(places[i] == (kinds[i] == 3 && seen < 3 ? k->at[seen] : 0), "write: the places of keys");
+        if (kinds[i] == 3) places[i] = (uint32_t)(32 * seen++);
+    }
+    memset(back, FILL, sizeof back);
+    d = covenant_decode(kinds, THREE_TOKENS, numbers, THREE_TOKENS, places, THREE_TOKENS, known, keys_of(known, k->last, 3), back, sizeof back);
+    expect(read_back(d, back, code), "decode: a key for each terminal");
+}
+
+static void key_order_records(const key_case *k) {
+    uint8_t code[THREE], keys[32 * 3 + 8], known[32 * 3], back[COVENANT_MAX_CODE];
+    covenant_record r[THREE_ROOM];
+    size_t bytes = keys_of(known, k->left, k->count), seen = 0;
+    terminals_code(code, k->last, 3);
+    memset(r, FILL, sizeof r);
+    memset(keys, FILL, sizeof keys);
+    memset(back, FILL, sizeof back);
+    covenant_written w = covenant_write_records(code, THREE, r, THREE_ROOM, keys, bytes - 1);
+    expect(w.number == 7 && w.records == 0 && w.key_bytes == 0 && kept(r, 0, sizeof r) && kept(keys, 0, sizeof keys), "write_records: a key byte too few");
+    w = covenant_write_records(code, THREE, r, THREE_ROOM, keys, sizeof keys);
+    expect(w.number == 0 && w.records == THREE_TOKENS && w.key_bytes == bytes, "write_records: three oracle terminals");
+    expect(!memcmp(keys, known, bytes) && kept(keys, bytes, sizeof keys) && kept(r, THREE_TOKENS * sizeof *r, sizeof r), "write_records: keys in token order");
+    covenant_decoded d = covenant_decode_records(r, THREE_TOKENS, keys, bytes, back, sizeof back);
+    expect(read_back(d, back, code), "decode_records: keys in token order");
+    for (size_t i = 0; i < THREE_TOKENS; i++) {
+        expect(r[i].place == (r[i].kind == 3 && seen < 3 ? k->at[seen] : 0), "write_records: the places of keys");
+        if (r[i].kind == 3) r[i].place = (uint32_t)(32 * seen++);
+    }
+    memset(back, FILL, sizeof back);
+    d = covenant_decode_records(r, THREE_TOKENS, known, keys_of(known, k->last, 3), back, sizeof back);
+    expect(read_back(d, back, code), "decode_records: a key for each terminal");
+}
+
+static void key_orders(void) {
+    static const key_case all[] = {
+        {{8, 8, 8}, {8}, 1, {0, 0, 0}},
+        {{9, 8, 9}, {9, 8}, 2, {0, 32, 0}},
+        {{9, 8, 8}, {9, 8}, 2, {0, 32, 32}},
+        {{9, 8, 7}, {9, 8, 7}, 3, {0, 32, 64}},
+    };
+    for (size_t i = 0; i < COUNT(all); i++) key_order(&all[i]), key_order_records(&all[i]);
+}
+
 /* The sizes that the header names are enough for the most oracle terminals that there can be; one more is refused. */
 static void most_terminals(void) {
     enum { MOST = COVENANT_MAX_ORACLES };
-    static uint8_t code[42 * (MOST + 1) + 10], witness[80 * MOST], checks[112 * MOST], kinds[COVENANT_MAX_TOKENS], keys[32 * MOST];
+    static uint8_t code[42 * (MOST + 1) + 10], witness[80 * MOST], checks[112 * MOST], kinds[COVENANT_MAX_TOKENS], keys[32 * MOST], known[32 * MOST], last[MOST + 1];
     static uint64_t numbers[COVENANT_MAX_TOKENS];
     static uint32_t places[COVENANT_MAX_TOKENS], ends[3 * MOST];
-    size_t n = terminals_code(code, MOST);
+    for (size_t i = 0; i <= MOST; i++) last[i] = (uint8_t)i;
+    size_t n = terminals_code(code, last, MOST);
     memset(witness, 7, sizeof witness); /* the terminals' own time */
     for (uint32_t i = 0; i < 3 * MOST; i++) ends[i] = 80 * (i / 3) + (i % 3 == 0 ? 64 : i % 3 == 1 ? 72 : 80);
     covenant_evaluated e = covenant_evaluate(code, n, 0, 0, 0, 0, 0, 0, 0, 0, 0, 0, 0, 0, 0, 0, 0, 0, 0, witness, sizeof witness, ends, COUNT(ends), checks, sizeof checks);
     expect(e.number == 0 && e.checks == MOST && e.left == 0, "evaluate: the most oracle terminals");
     covenant_written w = covenant_write(code, n, kinds, COUNT(kinds), numbers, COUNT(numbers), places, COUNT(places), keys, sizeof keys);
     expect(w.number == 0 && w.records <= COVENANT_MAX_TOKENS && w.key_bytes == sizeof keys, "write: the most oracle terminals");
-    n = terminals_code(code, MOST + 1);
+    expect(keys_of(known, last, MOST) == sizeof keys && !memcmp(keys, known, sizeof keys), "write: the most keys");
+    n = terminals_code(code, last, MOST + 1);
     expect(covenant_check(code, n).number == 3, "check: an oracle terminal too many");
+    memset(last, 7, sizeof last);
+    memset(keys, FILL, sizeof keys);
+    n = terminals_code(code, last, MOST);
+    w = covenant_write(code, n, kinds, COUNT(kinds), numbers, COUNT(numbers), places, COUNT(places), keys, 32);
+    expect(w.number == 0 && w.key_bytes == 32 && !memcmp(keys, code + 1, 32) && kept(keys, 32, sizeof keys), "write: the most oracle terminals with one key");
 }
 
 int main(void) {
@@ -244,6 +329,7 @@ int main(void) {
     write_and_decode();
     records();
     misplaced_oracles();
+    key_orders();
     most_terminals();
     if (!failures) puts("boundary: the calls from C agree");
     return failures != 0;

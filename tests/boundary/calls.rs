@@ -36,6 +36,20 @@ fn main() {
     assert_eq!((key_tokens(&right, &mut code), key_tokens(&right[..11], &mut code)), (5, 11));
     assert!(code.iter().all(|b| *b == 0xa5));
 
+    // three oracle terminals; the keys of the first and the last are equal, the second differs from them in its last byte
+    let terminal = |c: u8, last: u8| [&[c][..], &[7; 31], &[last], &[5, 0, 0, 0, 0, 0, 0, 0]].concat();
+    let three = [&terminal(32, 9)[..], &terminal(33, 8), &[27], &terminal(33, 9), &[27], &five[9..]].concat();
+    let (mut form, mut amounts, mut at, mut two) = ([9; 40], [9; 40], [9; 40], [9; 65]);
+    assert_eq!(covenant::write(&three, &mut form, &mut amounts, &mut at, &mut two[..63]).number, 7);
+    assert!((form, amounts, at, two) == ([9; 40], [9; 40], [9; 40], [9; 65]));
+    let w = covenant::write(&three, &mut form, &mut amounts, &mut at, &mut two);
+    assert_eq!((w.number, w.records, w.key_bytes), (0, 40, 64));
+    assert!(two[..] == [&[7; 31][..], &[9], &[7; 31], &[8], &[9]].concat());
+    let places: Vec<u32> = (0..40).filter(|i| form[*i] == 3).map(|i| at[i]).collect();
+    assert!(places == [0, 32, 0] && (0..40).all(|i| form[i] == 3 || at[i] == 0));
+    let d = covenant::decode(&form, &amounts, &at, &two[..64], &mut code);
+    assert!((d.number, d.start) == (0, 0) && code[..d.code_bytes as usize] == three);
+
     let unset = Record { kind: 9, number: 9, place: 9 };
     let token = |kind, number| Record { kind, number, place: 0 };
     let mut records = [unset; 4];

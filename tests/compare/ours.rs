@@ -39,6 +39,23 @@ fn one_answer(slices: String, records: String) -> String {
     if slices == records { slices } else { format!("{slices}, over records {records}") }
 }
 
+/// the keys that the records name, in the order of the first record that names each, are all the key bytes; a record names the place of its key there, and one that names
+/// no key 0. The Rust has no key buffer, so that this is not compared.
+fn in_token_order(all: &[TokenRecord], keys: &[u8]) {
+    let named = |r: &TokenRecord| &keys[r.place as usize..][..32];
+    let mut distinct: Vec<&[u8]> = vec![];
+    for r in all.iter().filter(|r| r.kind == 3) {
+        if !distinct.contains(&named(r)) {
+            distinct.push(named(r));
+        }
+    }
+    assert!(keys == distinct.concat(), "each key once, in the order of tokens");
+    for r in all {
+        let place = if r.kind == 3 { 32 * distinct.iter().position(|k| *k == named(r)).unwrap() } else { 0 };
+        assert_eq!(r.place as usize, place, "the place of a key");
+    }
+}
+
 /// Write's answer, from the records that it wrote; `kept` is what stands in those beyond the count.
 fn form(a: Written, all: &[TokenRecord], kept: TokenRecord, keys: &[u8]) -> String {
     let n = a.records as usize;
@@ -47,6 +64,7 @@ fn form(a: Written, all: &[TokenRecord], kept: TokenRecord, keys: &[u8]) -> Stri
     if a.number != 0 {
         return a.number.to_string();
     }
+    in_token_order(&all[..n], &keys[..a.key_bytes as usize]);
     let data = |r: &TokenRecord| match r.kind {
         1 => (r.number as u32).to_le_bytes().to_vec(),
         2 => r.number.to_le_bytes().to_vec(),

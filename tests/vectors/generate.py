@@ -7,7 +7,7 @@ body, 4 bytes each; the parts. Numbers are little-endian, 8 bytes each unless sa
   Check     code; number, place
   Evaluate  code; spent; marks; outputs; marks; issued; marks; reissued; marks; witness; ends (4 bytes each);
             current index, room for checks, number, verdict, first, second, checks, left; check bytes
-  Write     code; room of kinds, numbers, places and keys, number, place, records, key bytes; kinds; numbers; the key of each Bytes32
+  Write     code; room of kinds, numbers, places and keys, number, place, records, key bytes; kinds; numbers; places (4 bytes each); key bytes
   Decode    kinds; numbers; places (4 bytes each); keys; room for code, number, place, code bytes, start; code
 """
 import concurrent.futures
@@ -18,17 +18,23 @@ import threading
 from collections import Counter
 
 import indexes
+import key_orders
 import model
 import orders
 import script_numbers
 from conditions import DIVIDENDS, DIVISORS, EDGES, GREATEST, INDEX_EDGES, LEAST, TIMES, codes, condition, const, inverts, rng, rule_broken, sized
 from model import BYTES8, BYTES32, MAX_CODE, MAX_ORACLES, MAX_TOKENS, NUM, code_of, form
 from orders import FIVE, KEY, NO_MARK, ONE_INPUT
+from token_lists import altered, records, small, token, unsound
 
 # ---- packing
 
 def words(*ns):
     return struct.pack("<%dQ" % len(ns), *[n % 2**64 for n in ns])
+
+
+def halves(ns):
+    return struct.pack("<%dI" % len(ns), *ns)
 
 
 def pack(call, parts):
@@ -152,7 +158,7 @@ def evaluate(code, lists=None, current=None, lent=None, room=None):
     parts = [code]
     for numbers, marks in lists:
         parts += [words(*numbers), bytes(marks)]
-    parts += [witness, struct.pack("<%dI" % len(ends), *ends), words(current, room, *answer[:6]), answer[6]]
+    parts += [witness, halves(ends), words(current, room, *answer[:6]), answer[6]]
     cases.add(2, answer[0], parts)
     return answer
 
@@ -192,89 +198,32 @@ def evaluations():
 
 # ---- Write
 
+def add_write(code, rooms, number, place, kinds, numbers, places, keys):
+    cases.add(3, number, [code, words(*rooms, number, place, len(kinds), len(keys)), bytes(kinds), words(*numbers), halves(places), keys])
+
+
 def write(code, rooms=None, keys=None):
     try:
-        n, k = len(form(model.parse(code))), 32 * model.oracles(model.parse(code))
+        tokens = form(model.parse(code))
+        n, k = len(tokens), len(model.written(tokens)[3])
     except model.Refused:
         n, k = 3, 0
     if rooms is None:
         rooms = [max(n + rng.choice([0, 0, 0, 0, 0, 1, 3, -1 if rng.random() < 0.2 else 0]), 0) for _ in range(3)]
         keys = max(k + rng.choice([0, 0, 0, 0, 7, 40, -1]), 0)
         rooms = [min(r, 1100) for r in rooms]
-    number, place, tokens, key_bytes = model.write(code, min(rooms), keys)
-    parts = [code, words(*rooms, keys, number, place, len(tokens), key_bytes), bytes(t[0] for t in tokens)]
-    parts += [words(*[t[1] if t[0] in (NUM, BYTES8) else 0 for t in tokens]), b"".join(t[1] for t in tokens if t[0] == BYTES32)]
-    cases.add(3, number, parts)
-    return number, len(tokens), key_bytes
+    answer = model.write(code, min(rooms), keys)
+    add_write(code, [*rooms, keys], *answer)
+    return answer[0], len(answer[2]), len(answer[5])
 
 
 # ---- Decode
 
-def records(tokens):
-    """Records of tokens: keys in any order with other bytes between, and anything in the unused fields."""
-    kinds, numbers, places, keys = [], [], [], b""
-    order = [i for i, t in enumerate(tokens) if t[0] == BYTES32]
-    rng.shuffle(order)
-    at = {}
-    for i in order:
-        keys += rng.randbytes(rng.choice([0, 0, 1, 5]))
-        at[i] = len(keys)
-        keys += tokens[i][1]
-    for i, t in enumerate(tokens):
-        kinds.append(t[0])
-        numbers.append(t[1] if t[0] in (NUM, BYTES8) else rng.choice([0, 0, rng.randrange(2**64)]))
-        places.append(at[i] if t[0] == BYTES32 else rng.choice([0, 0, rng.randrange(2**32)]))
-    return kinds, numbers, places, keys
-
-
 def decode(kinds, numbers, places, keys, room=None):
     room = rng.choice([MAX_CODE, MAX_CODE, MAX_CODE, MAX_CODE + 5]) if room is None else room
     number, place, code, start = model.decode(kinds, numbers, places, keys, room)
-    parts = [bytes(kinds), words(*numbers), struct.pack("<%dI" % len(places), *places), keys, words(room, number, place, len(code), start), code]
-    cases.add(4, number, parts)
-    return number, place, len(code), start
-
-
-def token():
-    k = rng.randrange(36)
-    return (NUM, rng.choice([1, 1, 0, 2])) if k == NUM else (BYTES8, rng.randrange(9)) if k == BYTES8 else (BYTES32, rng.randbytes(32)) if k == BYTES32 else (k,)
-
-
-def small(t):
-    """The condition, with index constants that have a form."""
-    return t if all(k[0] != NUM or k[1] < 2**32 for k in form(t)) else (48, const(5), const(6))
-
-
-def altered(tokens):
-    ts = list(tokens)
-    for _ in range(rng.randrange(1, 3)):
-        at = rng.randrange(len(ts) + 1)
-        r = rng.random()
-        if r < 0.4 and at < len(ts):
-            ts[at] = token()
-        elif r < 0.6:
-            del ts[at : at + 1]
-        elif r < 0.8:
-            ts.insert(at, token())
-        else:
-            ts = ts[at:] or [token()]
-    return ts
-
-
-def unsound(kinds, numbers, places, keys):
-    i = rng.randrange(len(kinds))
-    r = rng.randrange(5)
-    if r == 0:
-        kinds[i] = rng.choice([36, 37, 255])
-    elif r == 1:
-        kinds[i], numbers[i] = NUM, rng.choice([2**32, 2**64 - 1])
-    elif r == 2:
-        kinds[i], places[i] = BYTES32, rng.choice([len(keys), 2**32 - 1, max(len(keys) - 31, 0)])
-    elif r == 3:
-        del numbers[i:]
-    else:
-        del places[i:]
-    return kinds, numbers, places, keys
+    cases.add(4, number, [bytes(kinds), words(*numbers), halves(places), keys, words(room, number, place, len(code), start), code])
+    return number, place, code, start
 
 
 def decodings():
@@ -454,9 +403,43 @@ def indexed():
     told(evaluate(equals_five((22, negative, (33, KEY, 5))), ONE_INPUT, 0, quote, 112), (43, 0, 0, 0, 0, 3, b""))
 
 
+def written_in_order(t, keys, places):
+    """R-5: Write leaves these key bytes and the terminals' places, in as much room or more; a byte of room less, or a key, is refused."""
+    code, tokens, rest = code_of(t), form(t), iter(places)
+    told(model.write(code, len(tokens), len(keys))[4:], ([next(rest) if x[0] == BYTES32 else 0 for x in tokens], keys))
+    for room in sorted({len(keys), 32 * len(places), len(keys) - 1, len(keys) - 32}):
+        told(write(code, [len(tokens)] * 3, room), (7, 0, 0) if room < len(keys) else (0, len(tokens), len(keys)))
+
+
+def read_alike(t):
+    """R-5: Decode gives the condition from each of its key buffers; from Write's without the last byte it refuses the first record that names the last key."""
+    tokens = form(t)
+    for lent in key_orders.layouts(tokens):
+        told(decode(*lent), (0, 0, code_of(t), 0))
+    kinds, numbers, places, keys = model.written(tokens)
+    told(decode(kinds, numbers, places, keys[:-1]), (9, tokens.index((BYTES32, keys[-32:])), b"", 0))
+
+
+def keyed():
+    """R-5: the order of keys, the room that they need, and the key buffers that are read alike."""
+    for t, keys, places in key_orders.cases():
+        written_in_order(t, keys, places)
+        read_alike(t)
+    for t, keys, places in key_orders.near():
+        written_in_order(t, keys, places)
+    sevens, both, nines = key_orders.ALIKE[:3]
+    told(key_orders.overlapped([sevens, both, nines]), ([0, 16, 32], bytes([7] * 32 + [9] * 32)))
+    told(key_orders.overlapped(key_orders.ACROSS), ([0, 32, 16, 31], KEY + key_orders.OTHER))
+    for four in key_orders.FOURS:
+        for _ in range(15):  # keys in any order
+            t = key_orders.named_again(condition(3, "oobuc"), four)
+            write(code_of(t))
+            told(decode(*model.written(form(t)))[:2], model.check(code_of(t)))
+
+
 def decoding_examples():
     b8 = (BYTES8, 5)
-    told(decode(*records([b8, b8, (14,)])), (0, 0, 19, 0))
+    told(decode(*records([b8, b8, (14,)])), (0, 0, equals_five(FIVE), 0))
     one = lambda kind, number, room=MAX_CODE: decode([kind], [number], [0], b"", room)
     told(one(36, 0)[:2], (9, 0))
     told(one(NUM, 2**32)[:2], (9, 0))
@@ -503,7 +486,7 @@ def bounds():
         told(write(code, [MAX_TOKENS] * 3, 0)[0], number)
     most = equals_five((18, (1, 2**32 - 1)))
     told(write(most, [7] * 3, 0), (0, 7, 0))
-    told(decode(*records(form(model.parse(most)))), (0, 0, len(most), 0))
+    told(decode(*records(form(model.parse(most)))), (0, 0, most, 0))
     told(decode(*records([(NUM, 2**32)] + form(model.parse(most))[1:]))[:2], (9, 0))
 
 
@@ -530,17 +513,14 @@ def add_evaluated(code, at, spent, outs, issued, reissued, witness, answer):
     elements = listed(witness, unhex)
     ends = [sum(map(len, elements[: k + 1])) for k in range(len(elements))]
     number, first, second, verdict, checks, left, listing = answer.split(" ") if " " in answer else (answer, 0, 0, 0, 0, len(ends), "-")
-    parts += [b"".join(elements), struct.pack("<%dI" % len(ends), *ends)]
+    parts += [b"".join(elements), halves(ends)]
     parts += [words(int(at), 112 * MAX_ORACLES, int(number), int(verdict), int(first), int(second), int(checks), int(left)), unhex(listing)]
     cases.add(2, int(number), parts)
 
 
 def add_written(code, answer):
     tokens = [] if answer in ("4", "5") else listed(answer, token_of)
-    keys = [t[1] for t in tokens if t[0] == BYTES32]
-    number = 0 if tokens else int(answer)
-    parts = [code, words(1030, 1030, 1030, 32 * MAX_ORACLES, number, 0, len(tokens), 32 * len(keys)), bytes(t[0] for t in tokens)]
-    cases.add(3, number, parts + [words(*[t[1] if t[0] in (NUM, BYTES8) else 0 for t in tokens]), b"".join(keys)])
+    add_write(code, [1030, 1030, 1030, 32 * MAX_ORACLES], 0 if tokens else int(answer), 0, *model.written(tokens))
 
 
 def add_decoded(tokens, answer):
@@ -548,7 +528,7 @@ def add_decoded(tokens, answer):
     start, code = (0, b"") if answer == "11" else (int(answer.split(" ")[0]), unhex(answer.split(" ")[1]))
     number = 0 if code else model.decode(kinds, numbers, places, keys, MAX_CODE)[0]
     assert code or number in (4, 5, 11), "the Rust's None is 4, 5 or 11"
-    parts = [bytes(kinds), words(*numbers), struct.pack("<%dI" % len(places), *places), keys]
+    parts = [bytes(kinds), words(*numbers), halves(places), keys]
     cases.add(4, number, parts + [words(MAX_CODE, number, 0, len(code), start), code])
 
 
@@ -587,6 +567,7 @@ def main():
     rules_told()
     orderings()
     bounds()
+    keyed()
     with open(sys.argv[1], "wb") as f:
         f.write(b"".join(cases.out))
     for call, name in enumerate(["Check", "Evaluate", "Write", "Decode"], 1):

@@ -296,18 +296,26 @@ def evaluate(code, lists, current, witness, ends, room):
     return (0, int(v), 0, 0, len(state.checks), len(state.elements), b"".join(state.checks))
 
 
+def written(tokens):
+    """Kinds, numbers, places and key bytes of a form. R-5: keys in the order of the first token that names them, equal ones once."""
+    keys = list(dict.fromkeys(t[1] for t in tokens if t[0] == BYTES32))
+    numbers = [t[1] if t[0] in (NUM, BYTES8) else 0 for t in tokens]
+    places = [32 * keys.index(t[1]) if t[0] == BYTES32 else 0 for t in tokens]
+    return [t[0] for t in tokens], numbers, places, b"".join(keys)
+
+
 def write(code, room, key_room):
-    """(number, place, tokens, key bytes); room is the shortest of the three record slices"""
+    """(number, place, kinds, numbers, places, key bytes); room is the shortest of the three record slices"""
     try:
-        t = condition(code)
-        tokens = form(t)
+        tokens = form(condition(code))
         if any(k[0] == NUM and k[1] >= 2**32 for k in tokens):
             raise Refused(6)
-        if room < len(tokens) or key_room < 32 * oracles(t):
+        answer = (0, 0, *written(tokens))
+        if room < len(tokens) or key_room < len(answer[5]):
             raise Refused(7)
-        return (0, 0, tokens, 32 * oracles(t))
+        return answer
     except Refused as r:
-        return r.answer[:2] + ([], 0)
+        return r.answer[:2] + ([], [], [], b"")
 
 
 class Reader:

@@ -13,7 +13,7 @@ use lib.ListN.{List·getD-eq-default, length, getD, take, drop, set, length-drop
 use lib.Seq.{drop-cons, drop-drop, take-suc-set}
 use Rattle.slices.specs.Bytes.{Bytes, bytesValue}
 use Rattle.slices.proofs.Bytes.{all-drop, all-take}
-use Rattle.cases.specs.Cases.{bytesBetween, endOf, numberAt, numbersOf, partOf, startOf, wordOf, wordsOf}
+use Rattle.cases.specs.Cases.{bytesBetween, endOf, halvesOf, numberAt, numbersOf, partOf, startOf, wordOf, wordsOf}
 
 module _ (k : ℕ) (s : List ℕ) (at : ℕ) where
   pub number-there : at + k ≤ length s → numberAt k s at ≡ bytesValue (take k (drop at s))
@@ -132,10 +132,20 @@ getD-numbers k (suc n) (suc i) d part h =
     let m : k + k * i ≡ k * suc i = omega (arith, mul-suc k i) in
     rw (getD-numbers k n i d (drop k part) (omega arith), drop-drop (k * i) k part, m)
 
--- the words of a part, and what is taken for one past the last
+-- the numbers of a part, of 8 and of 4 bytes each, and what is taken for one past the last
 pub word-is : (part : List ℕ) (i d : ℕ) → i < length part / 8 → getD (wordsOf part) i d ≡ wordOf part i
 word-is part i d h =
     getD-numbers 8 (length part / 8) i d part h ∙ sym (number-there 8 part (8 * i) (omega arith))
 
+pub half-is : (part : List ℕ) (i d : ℕ) → i < length part / 4 → getD (halvesOf part) i d ≡ numberAt 4 part (4 * i)
+half-is part i d h =
+    getD-numbers 4 (length part / 4) i d part h ∙ sym (number-there 4 part (4 * i) (omega arith))
+
+past : (k : ℕ) (part : List ℕ) (n i d : ℕ) → n ≤ i → getD (numbersOf k n part) i d ≡ d
+past k part n i d h = List·getD-eq-default (numbersOf k n part) d {n = i} (rw (length-numbers k n part) h)
+
 pub word-past : (part : List ℕ) (i d : ℕ) → length part / 8 ≤ i → getD (wordsOf part) i d ≡ d
-word-past part i d h = List·getD-eq-default (wordsOf part) d {n = i} (rw (length-numbers 8 (length part / 8) part) h)
+word-past part i d h = past 8 part (length part / 8) i d h
+
+pub half-past : (part : List ℕ) (i d : ℕ) → length part / 4 ≤ i → getD (halvesOf part) i d ≡ d
+half-past part i d h = past 4 part (length part / 4) i d h

@@ -185,6 +185,25 @@ pub fn holds_words(buffer: &[u64], part: &[u8], fill: u64) -> bool
     true
 }
 
+// And of numbers that have four bytes each in the part.
+pub fn holds_halves(buffer: &[u32], part: &[u8], fill: u32) -> bool
+    ensures { λ r. ⌜ r ≡ held fill (halvesOf (now (part .entry))) (now (buffer .entry)) ⌝ }
+{
+    let n = part.len() / 4;
+    if buffer.len() < n {
+        return false;
+    }
+    let mut j = 0;
+    while j < buffer.len() {
+        let known = if j < n { number(part, 4 * j) } else { fill };
+        if buffer[j] != known {
+            return false;
+        }
+        j += 1;
+    }
+    true
+}
+
 // Whether an answer's numbers are those that a part begins with, and a buffer holds the bytes, and after them what it was filled with.
 pub fn knows(part: &[u8], numbers: &[u64], buffer: &[u8], bytes: &[u8]) -> bool
     ensures { λ r. ⌜ r ≡ (begins (now (part .entry)) (now (numbers .entry)) && held fill (now (bytes .entry)) (now (buffer .entry))) ⌝ }

@@ -1,8 +1,9 @@
 -- Check by one pass over the commands: what the pass keeps, and what it comes to. That this is `checked` is `checked-walk` of proofs/Checks.antt.
-use Prim.Native.Nat.{ℕ}
+use Prim.Native.Nat.{ℕ, _≤_}
 use mathlib.Core.Bool.{cond}
 use mathlib.Core.List.{List, [], _∷_}
 use mathlib.Core.Option.{Option, none, some}
+use mathlib.Core.Path.{_≡_}
 use lib.Dec.{eqb, leb}
 use Rattle.semantics.specs.declared.Refusal.{Refusal}
 use Rattle.semantics.specs.declared.Command.{Command}
@@ -32,6 +33,12 @@ start = record { values = 0; indexes = 0; conditions = 0; tokens = 0; oracles = 
 -- refusal 2's offset, or what is known of the code
 unfoldable pub walked : List ℕ → Walked
 walked c = ended (fold summaryStep (Walk.going 0 start) (instructions c))
+
+-- code that is well-formed, and room for as many of something as it has tokens
+pub record Coded (code : List ℕ) (room : ℕ) : Type 0 where
+  pub last : Summary
+  pub walk : walked code ≡ Walked.Ended last
+  pub fits : last .tokens ≤ room
 
 -- the refusal that the oracle rule comes to
 abbrev pub refusalOf : Rule → Option Refusal

@@ -10,7 +10,7 @@ ghost use Rattle.semantics.specs.Check.{checked};
 ghost use Rattle.semantics.specs.Decode.{decoded};
 ghost use Rattle.semantics.specs.Evaluate.{evaluated};
 ghost use Rattle.semantics.specs.Meaning.{CallToldApart, CallUnambiguous};
-ghost use Rattle.semantics.specs.Write.{Writes, writing, written};
+ghost use Rattle.semantics.specs.Write.{wrote};
 ghost use Rattle.amounts.specs.Lists.{envOf};
 ghost use Rattle.semantics.specs.Records.{recordsOf};
 ghost use Rattle.answers.specs.Answers.{AnswerAccepts, checkAnswer, decodeAnswer, evaluateAnswer, writeAnswer};
@@ -73,8 +73,8 @@ pub extern "C" fn covenant_write(
     places: &mut [u32],
     keys: &mut [u8],
 ) -> WriteAnswer
-    ensures { λ r. ⌜ r ≡ writeAnswer (written (writing (now (code .entry)) (recordsOf (now (kinds .entry)) (now (numbers .entry)) (now (places .entry)) (now (keys .entry))))) ⌝ }
-    ensures { λ _. ⌜ Writes (writing (now (code .entry)) (recordsOf (now (kinds .entry)) (now (numbers .entry)) (now (places .entry)) (now (keys .entry)))) (recordsOf (now (kinds .entry)) (now (numbers .entry)) (now (places .entry)) (now (keys .entry))) (recordsOf (now (kinds .exit)) (now (numbers .exit)) (now (places .exit)) (now (keys .exit))) ⌝ }
+    ensures { λ r. ⌜ r ≡ writeAnswer (wrote (now (code .entry)) (recordsOf (now (kinds .entry)) (now (numbers .entry)) (now (places .entry)) (now (keys .entry))) .answer) ⌝ }
+    ensures { λ _. ⌜ recordsOf (now (kinds .exit)) (now (numbers .exit)) (now (places .exit)) (now (keys .exit)) ≡ wrote (now (code .entry)) (recordsOf (now (kinds .entry)) (now (numbers .entry)) (now (places .entry)) (now (keys .entry))) .records ⌝ }
 {
     answers::write_answer(writer::write(code, kinds, numbers, places, keys))
 }

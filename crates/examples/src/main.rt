@@ -139,6 +139,13 @@ fn tokens(kinds: &[u8], numbers: &[u64], records: usize) {
     }
 }
 
+// The place of a Bytes32.
+fn key_place(kind: u8, place: u32) {
+    if kind == 3 {
+        told(b" ", place as u64);
+    }
+}
+
 fn written(answer: Written, kinds: &[u8], numbers: &[u64]) {
     match answer {
         Written::Records { records, key_bytes } => {
@@ -246,6 +253,49 @@ fn write(asked: &[u8], code: &[u8]) {
     let mut places = [0u32; 32];
     let answer = writer::write(code, &mut kinds, &mut numbers, &mut places, &mut []);
     written(answer, &kinds, &numbers);
+}
+
+// The places of the records that name a key.
+fn key_places(kinds: &[u8], places: &[u32], records: usize) {
+    let mut i = 0;
+    while i < records {
+        if i < kinds.len() {
+            if i < places.len() {
+                key_place(kinds[i], places[i]);
+            }
+        }
+        i += 1;
+    }
+}
+
+// What stands of the keys of three oracle terminals; each key is 31 zeros and a last byte.
+fn write_keys(asked: &[u8], first: u8, second: u8, third: u8) {
+    let mut code = [0u8; 135];
+    code[0] = 32;
+    code[32] = first;
+    code[41] = 33;
+    code[73] = second;
+    code[82] = 27;
+    code[83] = 33;
+    code[115] = third;
+    code[124] = 27;
+    constant(&mut code, 125, 9);
+    code[134] = 48;
+    let mut kinds = [0u8; 48];
+    let mut numbers = [0u64; 48];
+    let mut places = [0u32; 48];
+    let mut keys = [0u8; 96];
+    let answer = writer::write(&code, &mut kinds, &mut numbers, &mut places, &mut keys);
+    column(asked);
+    match answer {
+        Written::Records { records, key_bytes } => {
+            told(b"0, with ", key_bytes as u64);
+            text(b" key bytes; places");
+            key_places(&kinds, &places, records);
+            text(b"\n");
+        }
+        Written::Refused(r) => refused(r),
+    }
 }
 
 // Up to 24 tokens; each that carries a key carries 4, 5, .. 35.
@@ -415,6 +465,28 @@ fn index_product() {
     write(b"    Write: Output(CurrIdx * 3) Eq 5", times_three);
 }
 
+// Not one of the thirteen: keys in the order of the first token that names them, equal ones once (R-5). A key is shown by its last byte.
+fn keys_in_order() {
+    write_keys(
+        b"    Write: three oracle terminals with the keys 1, 2, 1",
+        1,
+        2,
+        1,
+    );
+    write_keys(
+        b"    Write: three oracle terminals with the keys 2, 1, 3",
+        2,
+        1,
+        3,
+    );
+    write_keys(
+        b"    Write: three oracle terminals with the keys 1, 1, 1",
+        1,
+        1,
+        1,
+    );
+}
+
 // Not one of the thirteen: a quote's time is at least the terminal's, here 5, and is what the check has (R-8).
 fn quotes() {
     evaluate_quote(b"    Evaluate: PriceOracle1(5) Geq 9, quote of time 4", 4);
@@ -434,5 +506,6 @@ fn main() {
     oracle_rule_decoded();
     index_values();
     index_product();
+    keys_in_order();
     quotes();
 }

@@ -15,7 +15,7 @@ use Rattle.semantics.specs.Meaning.{CallAccepts, CallToldApart, CallUnambiguous
 use Rattle.semantics.specs.declared.Decoded.{Decoded}
 use Rattle.semantics.specs.declared.Refusal.{Refusal}
 use Rattle.semantics.specs.Records.{Records}
-use Rattle.semantics.specs.Write.{Writes, Writing, roomFor, writing, written}
+use Rattle.semantics.specs.Write.{Writing, leaves, roomFor, writing, written, wrote}
 use Rattle.records.specs.declared.TokenRecord.{TokenRecord}
 use Rattle.records.specs.Fields.{fieldsOf, kindsOf, numbersOf, placesOf, recordsFrom}
 use Rattle.semantics.proofs.Room.{countOf, too-many-records, writing-alike, writing-fits}
@@ -108,7 +108,7 @@ writable-same count t h = by (leb count maxTokens) refl
 
 records-count : (w : Writing) → writeAnswer (written w) .records ≡ countOf w
 records-count (Writing.refused r) = refl
-records-count (Writing.writes ts n) = refl
+records-count (Writing.writes ts) = refl
 
 module _ (code : List ℕ) (bytes : Bytes code) (count n : ℕ) (few : n ≡ writable count) (kinds numbers places keys : List ℕ) (new : Records) (r : WriteAnswer)
     (long₁ : maxTokens ≤ length kinds) (long₂ : maxTokens ≤ length numbers) (long₃ : maxTokens ≤ length places) where
@@ -126,8 +126,9 @@ module _ (code : List ℕ) (bytes : Bytes code) (count n : ℕ) (few : n ≡ wri
       let e = writable-same count t h ∙ ap (leb t) (sym few) in
       rw (length-map rs (λ (u : TokenRecord). u .kind), length-map rs (λ (u : TokenRecord). u .number), length-map rs (λ (u : TokenRecord). u .place), size, front kinds long₁, front numbers long₂, front places long₃, e)
 
-  pub fields-written : r ≡ writeAnswer (written w) → Writes w old new
+  pub fields-written : r ≡ writeAnswer (wrote code old .answer) → new ≡ wrote code old .records
       → WritesFields code count (new .kinds ++ drop n kinds) (new .numbers ++ drop n numbers) (new .places ++ drop n places) keys (new .keys) r
+  unfolding wrote
   fields-written e s =
       let c : r .records ≡ countOf w = ap (λ (x : WriteAnswer). x .records) e ∙ records-count w in
       let f = writing-fits code old in
@@ -137,14 +138,13 @@ module _ (code : List ℕ) (bytes : Bytes code) (count n : ℕ) (few : n ≡ wri
         fit = omega (arith, c, fits, few, writable-few count .1);
         stored = λ rs size.
             let same : writing code (fieldsOf rs keys) ≡ w = writing-alike code bytes (fieldsOf rs keys) old (same-room rs size) in
-            let room : countOf w ≤ length rs = omega (arith, fits, few, writable-few count .0, size) in
             let us = recordsFrom (new .kinds ++ drop n kinds) (new .numbers ++ drop n numbers) (new .places ++ drop n places) in
             record {
               answer = rw same e;
               writes = rw same
-                  (subst (λ (m : ℕ). Writes w (fieldsOf rs keys) (fieldsOf (take m us ++ drop m rs) (new .keys))) (sym c)
-                  (stored rs old new (drop n kinds) (drop n numbers) (drop n places) w (f .1) room s));
+                  (subst (λ (m : ℕ). fieldsOf (take m us ++ drop m rs) (new .keys) ≡ leaves w (fieldsOf rs keys)) (sym c)
+                  (stored rs old new (drop n kinds) (drop n numbers) (drop n places) w s));
               kept = subst (λ (m : ℕ). drop m (take m us ++ drop m rs) ≡ drop m rs) (sym c)
-                  (stored-kept rs old new (drop n kinds) (drop n numbers) (drop n places) w (f .1) s);
+                  (stored-kept rs old new (drop n kinds) (drop n numbers) (drop n places) w s);
             };
       }

@@ -8,7 +8,7 @@ use lib.Dec.{leb}
 use Rattle.semantics.specs.Code.{maxTokens}
 use Rattle.semantics.specs.Decode.{decoded}
 use Rattle.semantics.specs.Meaning.{CallToldApart, CallUnambiguous}
-use Rattle.semantics.specs.Write.{Writes, writing, written}
+use Rattle.semantics.specs.Write.{wrote}
 use Rattle.records.specs.declared.TokenRecord.{TokenRecord}
 use Rattle.records.specs.Fields.{fieldsOf, kindsOf, numbersOf, placesOf, recordsFrom}
 use Rattle.answers.specs.Answers.{AnswerAccepts, decodeAnswer, writeAnswer}
@@ -24,8 +24,8 @@ pub record DecodesRecords (rs : List TokenRecord) (keys old new : List ℕ) (r :
 
 -- what Write gives back for these records, and what records and keys are then; the records beyond those reported are kept
 pub record WritesRecords (code : List ℕ) (old new : List TokenRecord) (oldKeys newKeys : List ℕ) (r : WriteAnswer) : Type 0 where
-  pub answer : r ≡ writeAnswer (written (writing code (fieldsOf old oldKeys)))
-  pub writes : Writes (writing code (fieldsOf old oldKeys)) (fieldsOf old oldKeys) (fieldsOf new newKeys)
+  pub answer : r ≡ writeAnswer (wrote code (fieldsOf old oldKeys) .answer)
+  pub writes : fieldsOf new newKeys ≡ wrote code (fieldsOf old oldKeys) .records
   pub kept : drop (r .records) new ≡ drop (r .records) old
 
 -- how many records are loaded: all, or none where there are more than Decode takes

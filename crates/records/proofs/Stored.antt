@@ -3,17 +3,16 @@ use Prim.Native.Nat.{ℕ, zero, suc, _≤_}
 use mathlib.Core.Path.{_≡_, refl, ap, _∙_}
 use mathlib.Core.List.{List, [], _∷_, _++_, append-assoc, map, map-append}
 use native.Mathlib.Omega.{arith}
-use lib.ListN.{length, getD, take, drop, length-append, length-map, List·getD-append}
-use lib.Seq.{drop-at, getD-take, length-take-le, take-at}
+use lib.ListN.{length, take, drop, length-append, length-map}
+use lib.Seq.{drop-at, length-take-le, take-at}
 use Rattle.semantics.specs.Evaluate.{over}
 use Rattle.semantics.specs.Records.{Records}
 use Rattle.semantics.specs.Token.{Token}
-use Rattle.semantics.specs.Write.{RecordsWritten, Writes, Writing}
-use Rattle.semantics.proofs.Placing.{same-placed}
+use Rattle.semantics.specs.Write.{Writing, keysOf, leaves, placeIn}
 use Rattle.semantics.proofs.Room.{countOf}
 use Rattle.records.specs.declared.TokenRecord.{TokenRecord}
 use Rattle.records.specs.Fields.{fieldsOf, kindsOf, numbersOf, placesOf, recordsFrom}
-use Rattle.records.proofs.Onto.{onto, onto-length, records-many}
+use Rattle.records.proofs.Onto.{onto, records-many}
 
 -- records that have these fields
 record Fields (rs : List TokenRecord) (ks ns ps : List ℕ) : Type 0 where
@@ -65,52 +64,38 @@ module _ (rs : List TokenRecord) (old new : Records) (kinds numbers places : Lis
   abbrev pub storing : ℕ → List TokenRecord
   storing m = onto m (recordsFrom (new .kinds ++ kinds) (new .numbers ++ numbers) (new .places ++ places)) rs
 
-  kinds-long : (ts : List Token) (n : ℕ) → RecordsWritten ts n old new → length ts ≤ length (new .kinds ++ kinds)
-  kinds-long ts n w = rw (w .kinds) (written-long (λ t. t .kind) ts (old .kinds) kinds)
+  module _ (ts : List Token) (w : new ≡ leaves (Writing.writes ts) old) where
+    -- a column of what was written, with more behind it
+    fronted : (f : Token → ℕ) (x y more : List ℕ) → x ≡ over (map f ts) y → (take (length ts) (x ++ more) ≡ map f ts) × (length ts ≤ length (x ++ more))
+    fronted f x y more e = rw e (written-front f ts y more, written-long f ts y more)
 
-  numbers-long : (ts : List Token) (n : ℕ) → RecordsWritten ts n old new → length ts ≤ length (new .numbers ++ numbers)
-  numbers-long ts n w = rw (w .numbers) (written-long (λ t. t .number) ts (old .numbers) numbers)
+    kinds-are : (take (length ts) (new .kinds ++ kinds) ≡ map (λ t. t .kind) ts) × (length ts ≤ length (new .kinds ++ kinds))
+    kinds-are = fronted (λ t. t .kind) (new .kinds) (old .kinds) kinds (ap (λ (r : Records). r .kinds) w)
 
-  places-long : (ts : List Token) (n : ℕ) → length ts ≤ length (old .places) → RecordsWritten ts n old new → length ts ≤ length (new .places ++ places)
-  places-long ts n room w = omega (arith, length-append (new .places) places, w .placesCount)
+    numbers-are : (take (length ts) (new .numbers ++ numbers) ≡ map (λ t. t .number) ts) × (length ts ≤ length (new .numbers ++ numbers))
+    numbers-are = fronted (λ t. t .number) (new .numbers) (old .numbers) numbers (ap (λ (r : Records). r .numbers) w)
 
-  records-stored : (ts : List Token) (n : ℕ) → length ts ≤ length (old .places) → length ts ≤ length rs → RecordsWritten ts n old new
-      → RecordsWritten ts n (fieldsOf rs (old .keys)) (fieldsOf (storing (length ts)) (new .keys))
-  records-stored ts n room fits w =
-      let m = length ts in
-      let ks = new .kinds ++ kinds in
-      let ns = new .numbers ++ numbers in
-      let ps = new .places ++ places in
-      let us = recordsFrom ks ns ps in
-      let hp = places-long ts n room w in
-      let f = fields-from m ks ns ps (kinds-long ts n w) (numbers-long ts n w) hp in
-      let k : take m ks ≡ map (λ t. t .kind) ts = rw (w .kinds) (written-front (λ t. t .kind) ts (old .kinds) kinds) in
-      let l : take m ns ≡ map (λ t. t .number) ts = rw (w .numbers) (written-front (λ t. t .number) ts (old .numbers) numbers) in
-      let at = field-stored (λ r. r .place) m us rs (take m ps) (f .places) in
-      record {
-        kinds = rw length-map (field-stored (λ r. r .kind) m us rs (map (λ t. t .kind) ts) (f .kinds ∙ k));
-        numbers = rw length-map (field-stored (λ r. r .number) m us rs (map (λ t. t .number) ts) (f .numbers ∙ l));
-        places = ap (drop m) at ∙ drop-at (take m ps) (drop m (placesOf rs)) m (length-take-le m ps hp);
-        keys = w .keys;
-        placesCount = ap length at ∙ onto-length m ps (placesOf rs) hp (rw length-map fits);
-        keysCount = w .keysCount;
-        placed =
-            same-placed ts n new (fieldsOf (storing m) (new .keys)) refl
-            (λ i h.
-            ap (λ (x : List ℕ). getD x i 0) at ∙ List·getD-append (take m ps) (drop m (placesOf rs)) 0 i (rw (length-take-le m ps hp) h)
-            ∙ getD-take m ps i 0 h ∙ List·getD-append (new .places) places 0 i (omega (arith, h, w .placesCount)))
-            (w .placed);
-      }
+    places-are : (take (length ts) (new .places ++ places) ≡ map (placeIn (keysOf ts)) ts) × (length ts ≤ length (new .places ++ places))
+    places-are = fronted (placeIn (keysOf ts)) (new .places) (old .places) places (ap (λ (r : Records). r .places) w)
 
-  pub stored-kept : (w : Writing) → countOf w ≤ length (old .places) → Writes w old new → drop (countOf w) (storing (countOf w)) ≡ drop (countOf w) rs
-  stored-kept (Writing.refused r) room e = refl
-  stored-kept (Writing.writes ts n) room w =
+    records-stored : fieldsOf (storing (length ts)) (new .keys) ≡ leaves (Writing.writes ts) (fieldsOf rs (old .keys))
+    records-stored =
+        let m = length ts in
+        let us = recordsFrom (new .kinds ++ kinds) (new .numbers ++ numbers) (new .places ++ places) in
+        let f = fields-from m (new .kinds ++ kinds) (new .numbers ++ numbers) (new .places ++ places) (kinds-are .1) (numbers-are .1) (places-are .1) in
+        let k : kindsOf (storing m) ≡ over (map (λ t. t .kind) ts) (kindsOf rs) = rw length-map (field-stored (λ r. r .kind) m us rs (map (λ t. t .kind) ts) (f .kinds ∙ kinds-are .0)) in
+        let n : numbersOf (storing m) ≡ over (map (λ t. t .number) ts) (numbersOf rs) = rw length-map (field-stored (λ r. r .number) m us rs (map (λ t. t .number) ts) (f .numbers ∙ numbers-are .0)) in
+        let p : placesOf (storing m) ≡ over (map (placeIn (keysOf ts)) ts) (placesOf rs) = rw length-map (field-stored (λ r. r .place) m us rs (map (placeIn (keysOf ts)) ts) (f .places ∙ places-are .0)) in
+        λ i. record { kinds = k i; numbers = n i; places = p i; keys = ap (λ (r : Records). r .keys) w i }
+
+  pub stored-kept : (w : Writing) → new ≡ leaves w old → drop (countOf w) (storing (countOf w)) ≡ drop (countOf w) rs
+  stored-kept (Writing.refused r) e = refl
+  stored-kept (Writing.writes ts) e =
       let m = length ts in
       let us = recordsFrom (new .kinds ++ kinds) (new .numbers ++ numbers) (new .places ++ places) in
-      let long = records-many (new .kinds ++ kinds) (new .numbers ++ numbers) (new .places ++ places) m (kinds-long ts n w) (numbers-long ts n w) (places-long ts n room w) in
+      let long = records-many (new .kinds ++ kinds) (new .numbers ++ numbers) (new .places ++ places) m (kinds-are ts e .1) (numbers-are ts e .1) (places-are ts e .1) in
       drop-at (take m us) (drop m rs) m (length-take-le m us long)
 
-  pub stored : (w : Writing) → countOf w ≤ length (old .places) → countOf w ≤ length rs → Writes w old new
-      → Writes w (fieldsOf rs (old .keys)) (fieldsOf (storing (countOf w)) (new .keys))
-  stored (Writing.refused r) room fits e = rw e
-  stored (Writing.writes ts n) room fits w = records-stored ts n room fits w
+  pub stored : (w : Writing) → new ≡ leaves w old → fieldsOf (storing (countOf w)) (new .keys) ≡ leaves w (fieldsOf rs (old .keys))
+  stored (Writing.refused r) e = rw e
+  stored (Writing.writes ts) e = records-stored ts e

@@ -1,15 +1,16 @@
 -- A candidate that is found stands there, and a candidate stands before what follows it.
 use Prim.Native.Nat.{ℕ}
 use mathlib.Core.Bool.{Bool, true, false, cond, _&&_}
-use mathlib.Core.Path.{_≡_, refl, ap₂, subst}
+use mathlib.Core.Path.{_≡_, refl, sym, ap₂, subst}
 use mathlib.Core.List.{List, [], _∷_, _++_}
+use native.Mathlib.Omega.{arith}
 use borrow.Author.Tests.{eqb-true}
 use lib.ListN.{length, drop}
 use lib.Seq.{drop-append-seam}
 use lib.Dec.{eqb}
 use Rattle.semantics.specs.FromTokens.{Found, andThen, find, found, same, sameBytes, starts, nothing}
 use Rattle.semantics.specs.Token.{Token}
-use Rattle.semantics.proofs.Tests.{and-true, eqb-own}
+use Rattle.semantics.proofs.Tests.{and-assoc, and-true, eqb-own}
 
 pub sameBytes-own : (k : List ℕ) → sameBytes k k ≡ true
 sameBytes-own [] = refl
@@ -18,13 +19,21 @@ sameBytes-own (x ∷ xs) = simp (eqb-own, sameBytes-own xs)
 pub same-own : (t : Token) → same t t ≡ true
 same-own t = simp (eqb-own, sameBytes-own (t .key))
 
-sameBytes-true : (j k : List ℕ) → sameBytes j k ≡ true → j ≡ k
+pub sameBytes-true : (j k : List ℕ) → sameBytes j k ≡ true → j ≡ k
 sameBytes-true [] [] e = refl
 sameBytes-true [] (y ∷ ys) e = cc
 sameBytes-true (x ∷ xs) [] e = cc
 sameBytes-true (x ∷ xs) (y ∷ ys) e =
     let h = and-true (eqb x y) (sameBytes xs ys) e in
     ap₂ {C = List ℕ} _∷_ (eqb-true x y (h .0)) (sameBytes-true xs ys (h .1))
+
+-- part by part
+pub sameBytes-append : (j k l m : List ℕ) → length j ≡ length l → sameBytes (j ++ k) (l ++ m) ≡ (sameBytes j l && sameBytes k m)
+sameBytes-append [] k [] m e = refl
+sameBytes-append [] k (y ∷ l) m e = absurd (omega arith)
+sameBytes-append (x ∷ j) k [] m e = absurd (omega arith)
+sameBytes-append (x ∷ j) k (y ∷ l) m e =
+    rw (sameBytes-append j k l m (omega arith)) (sym (and-assoc (eqb x y) (sameBytes j l) (sameBytes k m)))
 
 pub same-true : (s t : Token) → same s t ≡ true → s ≡ t
 same-true s t e =

@@ -1,11 +1,11 @@
--- The token form of a condition that 6 does not turn down: its tokens are sound, and its keys are 32 bytes for each oracle terminal.
-use Prim.Native.Nat.{ℕ, zero, suc, _+_, _*_, _^_}
+-- The token form of a condition that 6 does not turn down: its tokens are sound. And it names no more keys than it has oracle terminals (`form-keys`).
+use Prim.Native.Nat.{ℕ, zero, suc, _+_, _≤_, _^_}
 use mathlib.Core.Bool.{true, not, _&&_, _||_}
 use mathlib.Core.Path.{_≡_, refl, sym, _∙_}
-use mathlib.Core.List.{List, [], _∷_, _++_, append-assoc, append-nil}
+use mathlib.Core.List.{List, [], _∷_, _++_}
 use native.Mathlib.Nat.{zero-add}
 use native.Mathlib.Omega.{arith}
-use lib.ListN.{length, length-append}
+use lib.ListN.{length}
 use lib.Dec.{eqb, ltb}
 use borrow.Author.Needs.{needs}
 use borrow.Author.Tests.{lt-ltb, ltb-true, ne-eqb}
@@ -17,96 +17,94 @@ use Rattle.semantics.proofs.Tests.{and-assoc, and-true}
 use Rattle.semantics.specs.Oracle.{Terminal, oracles, oraclesIn, terminals}
 use Rattle.semantics.specs.Token.{Token, bytes32, bytes8, exprForm, form, idxForm, narrow, op, oracleForm}
 use Rattle.semantics.specs.Trees.{BinOp, CmpOp, IdxOp, AmountList, UnOp, Arith, Expr, IdxExpr}
-use Rattle.semantics.specs.Write.{keysOf}
+use Rattle.semantics.specs.Write.{keysFrom, keysOf}
+use Rattle.semantics.proofs.Placing.{keys-append, with-few}
 use Rattle.semantics.specs.Meaning.{Sound, SoundAs}
 
 -- of an operation's own tokens
 record Own (ts : List Token) : Type 0 where
   sound : All Sound ts
-  keys : keysOf ts ≡ []
+  keys : (ks : List (List ℕ)) → keysFrom ks ts ≡ ks
 
 idxOp-own : (o : IdxOp) → Own (idxRow o .between) × Own (idxRow o .form)
-unfolding keysOf
+unfolding keysFrom
 idxOp-own o =
     elim o [
-      | IdxOp.Add ↦ (record { sound = search needs; keys = refl }, record { sound = search needs; keys = refl })
-      | IdxOp.Sub ↦ (record { sound = search needs; keys = refl }, record { sound = search needs; keys = refl })
-      | IdxOp.Mul ↦ (record { sound = search needs; keys = refl }, record { sound = search needs; keys = refl })
-      | IdxOp.Div ↦ (record { sound = search needs; keys = refl }, record { sound = search needs; keys = refl })
+      | IdxOp.Add ↦ (record { sound = search needs; keys = λ ks. refl }, record { sound = search needs; keys = λ ks. refl })
+      | IdxOp.Sub ↦ (record { sound = search needs; keys = λ ks. refl }, record { sound = search needs; keys = λ ks. refl })
+      | IdxOp.Mul ↦ (record { sound = search needs; keys = λ ks. refl }, record { sound = search needs; keys = λ ks. refl })
+      | IdxOp.Div ↦ (record { sound = search needs; keys = λ ks. refl }, record { sound = search needs; keys = λ ks. refl })
     ]
 
 list-own : (l : AmountList) → Own (listRow l .form)
-unfolding keysOf
+unfolding keysFrom
 list-own l =
     elim l [
-      | AmountList.Input ↦ record { sound = search needs; keys = refl }
-      | AmountList.Output ↦ record { sound = search needs; keys = refl }
-      | AmountList.InputIssue ↦ record { sound = search needs; keys = refl }
-      | AmountList.InputReIssue ↦ record { sound = search needs; keys = refl }
+      | AmountList.Input ↦ record { sound = search needs; keys = λ ks. refl }
+      | AmountList.Output ↦ record { sound = search needs; keys = λ ks. refl }
+      | AmountList.InputIssue ↦ record { sound = search needs; keys = λ ks. refl }
+      | AmountList.InputReIssue ↦ record { sound = search needs; keys = λ ks. refl }
     ]
 
 binOp-own : (o : BinOp) → Own (binRow o .form)
-unfolding keysOf
+unfolding keysFrom
 binOp-own o =
     elim o [
-      | BinOp.Add ↦ record { sound = search needs; keys = refl }
-      | BinOp.Sub ↦ record { sound = search needs; keys = refl }
-      | BinOp.Mul ↦ record { sound = search needs; keys = refl }
-      | BinOp.Div ↦ record { sound = search needs; keys = refl }
-      | BinOp.Mod ↦ record { sound = search needs; keys = refl }
-      | BinOp.BitAnd ↦ record { sound = search needs; keys = refl }
-      | BinOp.BitOr ↦ record { sound = search needs; keys = refl }
-      | BinOp.Xor ↦ record { sound = search needs; keys = refl }
+      | BinOp.Add ↦ record { sound = search needs; keys = λ ks. refl }
+      | BinOp.Sub ↦ record { sound = search needs; keys = λ ks. refl }
+      | BinOp.Mul ↦ record { sound = search needs; keys = λ ks. refl }
+      | BinOp.Div ↦ record { sound = search needs; keys = λ ks. refl }
+      | BinOp.Mod ↦ record { sound = search needs; keys = λ ks. refl }
+      | BinOp.BitAnd ↦ record { sound = search needs; keys = λ ks. refl }
+      | BinOp.BitOr ↦ record { sound = search needs; keys = λ ks. refl }
+      | BinOp.Xor ↦ record { sound = search needs; keys = λ ks. refl }
     ]
 
 unOp-own : (o : UnOp) → Own (unRow o .form)
-unfolding keysOf
-unOp-own o = elim o [ UnOp.Invert ↦ record { sound = search needs; keys = refl } | UnOp.Negate ↦ record { sound = search needs; keys = refl } ]
+unfolding keysFrom
+unOp-own o = elim o [ UnOp.Invert ↦ record { sound = search needs; keys = λ ks. refl } | UnOp.Negate ↦ record { sound = search needs; keys = λ ks. refl } ]
 
 cmp-own : (o : CmpOp) → Own (cmpRow o .form)
-unfolding keysOf
+unfolding keysFrom
 cmp-own o =
     elim o [
-      | CmpOp.Eq ↦ record { sound = search needs; keys = refl }
-      | CmpOp.Lt ↦ record { sound = search needs; keys = refl }
-      | CmpOp.Leq ↦ record { sound = search needs; keys = refl }
-      | CmpOp.Gt ↦ record { sound = search needs; keys = refl }
-      | CmpOp.Geq ↦ record { sound = search needs; keys = refl }
+      | CmpOp.Eq ↦ record { sound = search needs; keys = λ ks. refl }
+      | CmpOp.Lt ↦ record { sound = search needs; keys = λ ks. refl }
+      | CmpOp.Leq ↦ record { sound = search needs; keys = λ ks. refl }
+      | CmpOp.Gt ↦ record { sound = search needs; keys = λ ks. refl }
+      | CmpOp.Geq ↦ record { sound = search needs; keys = λ ks. refl }
     ]
 
 -- the keys
-pub keys-append : (xs ys : List Token) → keysOf (xs ++ ys) ≡ keysOf xs ++ keysOf ys
-unfolding keysOf
-keys-append [] ys = refl
-keys-append (x ∷ xs) ys = rw (keys-append xs ys) (simp append-assoc)
-
 pub oracles-append : (xs ys : List Terminal) → oraclesIn (xs ++ ys) ≡ oraclesIn xs + oraclesIn ys
 oracles-append [] ys = sym (zero-add (oraclesIn ys))
 oracles-append (Terminal.Other ∷ xs) ys = oracles-append xs ys
 oracles-append (Terminal.PriceOracle1 ∷ xs) ys = omega (arith, oracles-append xs ys)
 oracles-append (Terminal.PriceOracle1W ∷ xs) ys = omega (arith, oracles-append xs ys)
 
-idx-keys : (e : IdxExpr) → keysOf (idxForm e) ≡ []
-unfolding keysOf idxForm
-idx-keys (IdxExpr.Const n) = refl
-idx-keys IdxExpr.CurrIdx = refl
-idx-keys (IdxExpr.Op o x y) = let w = idxOp-own o in simp (keys-append, idx-keys x, idx-keys y, w .0 .keys, w .1 .keys)
+idx-keys : (e : IdxExpr) (ks : List (List ℕ)) → keysFrom ks (idxForm e) ≡ ks
+unfolding keysFrom idxForm
+idx-keys (IdxExpr.Const n) ks = refl
+idx-keys IdxExpr.CurrIdx ks = refl
+idx-keys (IdxExpr.Op o x y) ks =
+    let w = idxOp-own o in simp (keys-append, idx-keys x, idx-keys y, w .0 .keys, w .1 .keys)
 
-expr-keys : (e : Expr) → ExprEncodable e → length (keysOf (exprForm e)) ≡ 32 * oraclesIn (terminals e)
-unfolding keysOf exprForm terminals
-expr-keys (Expr.Const n) w = refl
-expr-keys Expr.CurrInputIdx w = refl
-expr-keys (Expr.Lookup l i) w = simp (keys-append, idx-keys i, list-own l .keys)
-expr-keys (Expr.Binary o x y) w =
-    simp (keys-append, binOp-own o .keys, append-nil, length-append, oracles-append) (omega (arith, expr-keys x (w .0), expr-keys y (w .1)))
-expr-keys (Expr.Unary o x) w = simp (keys-append, unOp-own o .keys, append-nil) (expr-keys x w)
-expr-keys (Expr.PriceOracle1 key time) w = rw (append-nil key) (w .0)
-expr-keys (Expr.PriceOracle1W key time) w = rw (append-nil key) (w .0)
+expr-keys : (e : Expr) (ks : List (List ℕ)) → length (keysFrom ks (exprForm e)) ≤ length ks + oraclesIn (terminals e)
+unfolding keysFrom exprForm terminals
+expr-keys (Expr.Const n) ks = omega arith
+expr-keys Expr.CurrInputIdx ks = omega arith
+expr-keys (Expr.Lookup l i) ks = simp (keys-append, idx-keys i, list-own l .keys) (omega arith)
+expr-keys (Expr.Binary o x y) ks =
+    simp (keys-append, binOp-own o .keys, oracles-append) (omega (arith, expr-keys x ks, expr-keys y (keysFrom ks (exprForm x))))
+expr-keys (Expr.Unary o x) ks = simp (keys-append, unOp-own o .keys) (expr-keys x ks)
+expr-keys (Expr.PriceOracle1 key time) ks = omega (arith, with-few ks (bytes32 key))
+expr-keys (Expr.PriceOracle1W key time) ks = omega (arith, with-few ks (bytes32 key))
 
-pub form-keys : (c : Arith) → Encodable c → length (keysOf (form c)) ≡ 32 * oracles c
+-- so a key buffer for all oracle terminals is always long enough
+pub form-keys : (c : Arith) → length (keysOf (form c)) ≤ oracles c
 unfolding form oracles
-form-keys (Arith.Compare o x y) w =
-    simp (keys-append, cmp-own o .keys, append-nil, length-append, oracles-append) (omega (arith, expr-keys x (w .0), expr-keys y (w .1)))
+form-keys (Arith.Compare o x y) =
+    simp (keys-append, cmp-own o .keys, oracles-append) (omega (arith, expr-keys x [], expr-keys y (keysFrom [] (exprForm x))))
 
 -- the tokens
 pub narrow-append : (xs ys : List Token) → narrow (xs ++ ys) ≡ (narrow xs && narrow ys)

@@ -12,6 +12,7 @@ pub mod Heads
 pub mod Canon
 pub mod FromTokens
 pub mod CodeSize
+pub mod Over
 pub mod Placing
 pub mod Forms
 pub mod Records
@@ -19,6 +20,7 @@ pub mod Room
 pub mod Meaning
 pub mod ToldApart
 pub mod RoundTrip
+pub mod KeyBuffers
 pub mod Run
 pub mod Examples
 pub mod Readings

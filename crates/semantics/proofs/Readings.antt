@@ -4,7 +4,8 @@ use Prim.Native.Nat.{ℕ, _-_, _^_}
 use mathlib.Core.Bool.{cond}
 use mathlib.Core.Path.{_≡_, refl}
 use mathlib.Core.List.{List, [], _∷_, _++_, map}
-use lib.ListN.{getD, replicate}
+use lib.Dec.{eqb}
+use lib.ListN.{drop, getD, replicate}
 use lib.IntN.{ℤ}
 use Rattle.num64.specs.Exact.{checkedAdd, checkedSub, checkedMul}
 use Rattle.word64.specs.Bits.{bitsOf}
@@ -23,7 +24,7 @@ use Rattle.semantics.specs.Records.{Records, tokensFrom, unsoundFrom}
 use Rattle.semantics.specs.Refusals.{Refusal, numbered}
 use Rattle.semantics.specs.Token.{Token, exprForm, form, idxForm}
 use Rattle.semantics.specs.Trees.{AmountList, Arith, BinOp, CmpOp, Expr, IdxExpr, IdxOp, UnOp}
-use Rattle.semantics.specs.Write.{Written, writing, written}
+use Rattle.semantics.specs.Write.{Written, indexOf, joined, keysFrom, withKey, writing, wrote}
 
 -- a refusal's number with its data
 abbrev refused : Refusal → List ℕ
@@ -98,7 +99,26 @@ shownWritten (Written.Records n k) = n ∷ k ∷ []
 shownWritten (Written.Refused r) = refused r
 
 abbrev write : List ℕ → List ℕ → List ℕ
-write c kinds = shownWritten (written (writing c (records kinds)))
+write c kinds = shownWritten (wrote c (records kinds) .answer)
+
+-- keys by their last byte; and what Write leaves of those of three terminals in so many key bytes: the places of the records that name one, and the bytes
+abbrev ending : ℕ → List ℕ
+ending n = replicate 31 7 ++ n ∷ []
+
+abbrev three : ℕ → ℕ → ℕ → List ℕ
+three a b c =
+    eq
+    (Expr.Binary BinOp.BitAnd (Expr.Binary BinOp.BitAnd (Expr.PriceOracle1 (ending a) 5) (Expr.PriceOracle1W (ending b) 5)) (Expr.PriceOracle1W (ending c) 5))
+    (Expr.Const 9)
+
+abbrev keyPlaces : List ℕ → List ℕ → List ℕ
+keyPlaces [] places = []
+keyPlaces (k ∷ kinds) places = cond (eqb k 3) (getD places 0 0 ∷ []) [] ++ keyPlaces kinds (drop 1 places)
+
+abbrev keysLeft : List ℕ → ℕ → List ℕ
+keysLeft c n =
+    let w = wrote c (record { kinds = replicate 40 0; numbers = replicate 40 0; places = replicate 40 1; keys = replicate n 0 }) in
+    shownWritten (w .answer) ++ keyPlaces (w .records .kinds) (w .records .places) ++ w .records .keys
 
 abbrev shownDecoded : Decoded → List ℕ
 shownDecoded (Decoded.Code n start) = n ∷ start ∷ []
@@ -236,8 +256,12 @@ readings =
     -- R-2: where both rules are broken, 4, as Check; what stands before the tail is not judged; where no tail can be read, 11
     ∷ (tailOf (formOf (Expr.PriceOracle1W key 5) (Expr.PriceOracle1 key 5)), bare 4) ∷ (place (checked (eq (Expr.PriceOracle1W key 5) (Expr.PriceOracle1 key 5))), bare 4)
     ∷ (tailOf (formOf (Expr.Const 5) (Expr.PriceOracle1 key 5)), bare 5) ∷ (tailOf (exprForm (Expr.PriceOracle1W key 5) ++ formOf (Expr.Const 5) (Expr.Const 5)), 0 ∷ 13 ∷ [])
-    ∷ (tailOf (formOf (Expr.Const 5) (Expr.Const 5) ++ formOf (Expr.Const 5) (Expr.PriceOracle1 key 5)), bare 5) ∷ (tailOf (exprForm (Expr.PriceOracle1W key 5)), bare 11) ∷ []
+    ∷ (tailOf (formOf (Expr.Const 5) (Expr.Const 5) ++ formOf (Expr.Const 5) (Expr.PriceOracle1 key 5)), bare 5) ∷ (tailOf (exprForm (Expr.PriceOracle1W key 5)), bare 11)
+    -- R-5: keys in the order of the first token that names them, equal ones once, also where only the last byte differs; 7 by the different ones
+    ∷ (keysLeft (three 1 2 1) 65, 40 ∷ 64 ∷ 0 ∷ 32 ∷ 0 ∷ ending 1 ++ ending 2 ++ 0 ∷ [])
+    ∷ (keysLeft (three 2 1 3) 96, 40 ∷ 96 ∷ 0 ∷ 32 ∷ 64 ∷ ending 2 ++ ending 1 ++ ending 3)
+    ∷ (keysLeft (three 1 1 1) 32, 40 ∷ 32 ∷ 0 ∷ 0 ∷ 0 ∷ ending 1) ∷ (keysLeft (three 1 2 1) 63, bare 7 ++ replicate 63 0) ∷ []
 
 pub readings-right : map (λ (e : List ℕ × List ℕ). e .0) readings ≡ map (λ (e : List ℕ × List ℕ). e .1) readings
-unfolding readings checkedAdd checkedSub checkedMul idxAdd idxSub idxMul idxDiv littleEndian bytesValue idxForm exprForm form idxCode exprCode code commandOf instructions parse idxHeadForm idxHead idxWithin idxFromTokens headForm head exprWithin exprFromTokens comparison fromTokens terminals oracleRule oracles index amount oracle eval evalArith decode initial judged condition checked evaluatedTree evaluated writing tokensFrom unsoundFrom decoded
+unfolding readings checkedAdd checkedSub checkedMul idxAdd idxSub idxMul idxDiv littleEndian bytesValue idxForm exprForm form idxCode exprCode code commandOf instructions parse idxHeadForm idxHead idxWithin idxFromTokens headForm head exprWithin exprFromTokens comparison fromTokens terminals oracleRule oracles index amount oracle eval evalArith decode initial judged condition checked evaluatedTree evaluated indexOf withKey keysFrom joined writing wrote tokensFrom unsoundFrom decoded
 readings-right = refl

@@ -1,21 +1,21 @@
 -- Token records: the tokens that they are; sound records are sound tokens (`tokens-sound`); and records that Write wrote are the tokens that it
--- wrote (`written-tokens`), so that a writer which meets `Writes` wrote what Decode reads.
+-- wrote (`written-tokens`).
 use Prim.Native.Nat.{ℕ, zero, suc, _+_, _≤_, _<_, _^_}
 use mathlib.Core.Bool.{Bool, true, false, _&&_, _||_, not, cond}
 use mathlib.Core.Option.{Option, none, some}
-use mathlib.Core.Path.{_≡_, refl, sym, ap, _∙_, subst⁻¹}
-use mathlib.Core.List.{List, map}
+use mathlib.Core.Path.{_≡_, refl, ap, _∙_, subst⁻¹}
+use mathlib.Core.List.{List}
 use native.Mathlib.Nat.{add-zero, add-suc, suc-add, zero-add}
 use native.Mathlib.Omega.{arith}
 use borrow.Author.Tests.{leb-true, ltb-true, ne-eqb}
-use lib.ListN.{length, getD, take, drop, length-take, length-drop, length-map, List·getD-append, List·getD-map}
+use lib.ListN.{length, getD, take, drop, length-take, length-drop}
 use lib.Dec.{eqb, leb, ltb}
 use Rattle.slices.specs.Bytes.{All, Bytes}
 use Rattle.slices.proofs.Bytes.{all-drop, all-getD, all-take}
-use Rattle.semantics.specs.Evaluate.{over}
 use Rattle.semantics.specs.Records.{Records, keyOf, soundAt, tokenAt, tokenOf, tokens, tokensFrom, unsound, unsoundFrom}
 use Rattle.semantics.specs.Token.{Token, op}
-use Rattle.semantics.specs.Write.{RecordsWritten}
+use Rattle.semantics.specs.Write.{Writing, leaves}
+use Rattle.semantics.proofs.Placing.{column, key-stands}
 use Rattle.semantics.proofs.Tests.{and-true}
 use Rattle.semantics.specs.Meaning.{Sound, SoundAs}
 
@@ -91,17 +91,11 @@ again (suc (suc zero)) number key k s w = rw (s .1)
 again (suc (suc (suc zero))) number key k s w = rw (s .0, w refl)
 again (suc (suc (suc (suc m)))) number key k s w = other m number k ∙ rw (s .1, s .2)
 
-column : (f : Token → ℕ) → f (op 0) ≡ 0 → (ts : List Token) (old : List ℕ) (i : ℕ) → i < length ts → getD (over (map f ts) old) i 0 ≡ f (getD ts i (op 0))
-column f z ts old i h =
-    List·getD-append (map f ts) (drop (length (map f ts)) old) 0 i (rw length-map h)
-    ∙ ap (getD (map f ts) i) (sym z) ∙ List·getD-map f ts i (op 0)
-
-pub written-tokens : (ts : List Token) (n : ℕ) (old new : Records) → All Sound ts → RecordsWritten ts n old new
-    → (i : ℕ) → i < length ts → tokenAt new i ≡ getD ts i (op 0)
-written-tokens ts n old new s w i h =
+pub written-tokens : (ts : List Token) (old : Records) → All Sound ts → (i : ℕ) → i < length ts
+    → tokenAt (leaves (Writing.writes ts) old) i ≡ getD ts i (op 0)
+written-tokens ts old s i h =
     let t = getD ts i (op 0) in
-    let kind = ap (λ (l : List ℕ). getD l i 0) (w .kinds) ∙ column (λ x. x .kind) refl ts (old .kinds) i h in
-    let number = ap (λ (l : List ℕ). getD l i 0) (w .numbers) ∙ column (λ x. x .number) refl ts (old .numbers) i h in
-    ap (λ (k : ℕ). tokenOf k (getD (new .numbers) i 0) (keyOf new i)) kind
-    ∙ ap (λ (m : ℕ). tokenOf (t .kind) m (keyOf new i)) number
-    ∙ again (t .kind) (t .number) (t .key) (keyOf new i) (all-getD Sound ts i (op 0) (refl, refl) s) (λ e. w .placed .whole i h e .1)
+    let new = leaves (Writing.writes ts) old in
+    ap (λ (k : ℕ). tokenOf k (getD (new .numbers) i 0) (keyOf new i)) (column (λ x. x .kind) refl ts (old .kinds) i h)
+    ∙ ap (λ (m : ℕ). tokenOf (t .kind) m (keyOf new i)) (column (λ x. x .number) refl ts (old .numbers) i h)
+    ∙ again (t .kind) (t .number) (t .key) (keyOf new i) (all-getD Sound ts i (op 0) (refl, refl) s) (λ e. key-stands ts old s i h e .1)

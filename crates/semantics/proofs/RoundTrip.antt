@@ -1,15 +1,15 @@
--- The round trip: Decode of what Write wrote gives back the condition, the twin apart, at position 0, wherever Write placed the keys.
-use Prim.Native.Nat.{ℕ, zero, suc, _+_, _*_, _≤_, _<_, _^_}
+-- The round trip: Decode of what Write wrote gives back the condition, the twin apart, at position 0.
+use Prim.Native.Nat.{ℕ, zero, suc, _+_, _≤_, _<_, _^_}
 use mathlib.Core.Bool.{Bool, true, false, _&&_, _||_, not}
 use mathlib.Core.Option.{Option, none}
 use mathlib.Core.Path.{_≡_, refl, sym, ap, subst, _∙_}
 use mathlib.Core.List.{List, [], _∷_, append-nil, map, reverse}
 use native.Mathlib.Nat.{add-suc, add-zero, suc-add, zero-add}
 use native.Mathlib.Omega.{arith}
-use borrow.Author.Tests.{le-leb, leb-true, lt-ltb, ne-eqb}
+use borrow.Author.Tests.{le-leb, lt-ltb, ne-eqb}
 use lib.Dec.{eqb, leb, ltb}
 use lib.ListN.{length, getD, take, drop, length-map, List·getD-map}
-use lib.Seq.{ext-getD, getD-take, length-take-le, take-at}
+use lib.Seq.{ext-getD, getD-take, take-at}
 use Rattle.slices.specs.Bytes.{All, Bytes}
 use Rattle.slices.proofs.Bytes.{all-getD}
 use Rattle.semantics.specs.Check.{Condition, condition, firstOf, unless}
@@ -17,19 +17,19 @@ use Rattle.semantics.specs.Code.{code, maxCode}
 use Rattle.semantics.specs.Decode.{Decoded, Reading, decode, decoded, decodedAs, reading, unlessRuled}
 use Rattle.semantics.specs.Evaluate.{over}
 use Rattle.semantics.specs.FromTokens.{fromTokens}
-use Rattle.semantics.specs.Oracle.{oracleRule, oracles}
+use Rattle.semantics.specs.Oracle.{oracleRule}
 use Rattle.semantics.specs.Records.{Records, keyOf, soundAt, tokenAt, tokenOf, tokens, unsound, unsoundFrom}
 use Rattle.semantics.specs.Refusals.{Refusal}
 use Rattle.semantics.specs.Token.{Token, form, narrow, op}
 use Rattle.semantics.specs.Trees.{Arith}
-use Rattle.semantics.specs.Write.{RecordsWritten, Writes, Writing, Written, roomFor, writesUnless, writing, written}
+use Rattle.semantics.specs.Write.{Writing, Written, keysOf, leaves, placeIn, roomFor, writesUnless, writing, wrote, written}
 use Rattle.semantics.proofs.Canon.{canon, oracleRule-canon}
 use Rattle.semantics.proofs.Forms.{form-sound}
 use Rattle.semantics.proofs.FromTokens.{arith-reader}
 use Rattle.semantics.proofs.Meaning.{call-decodes}
 use Rattle.semantics.proofs.Passing.{passing}
+use Rattle.semantics.proofs.Placing.{key-stands}
 use Rattle.semantics.proofs.Records.{getD-tokens, length-tokens, written-tokens}
-use Rattle.semantics.proofs.Tests.{and-true}
 use Rattle.semantics.specs.Meaning.{Sound, SoundAs}
 
 -- the first n records
@@ -56,32 +56,21 @@ no-unsound r i (suc k) h =
     (no-unsound r (suc i) k (λ j g. subst (λ (n : ℕ). soundAt r n ≡ true) (add-suc i j ∙ sym (suc-add i j)) (h (suc j) (omega arith))))
 
 -- the records of tokens that were written are those tokens, and sound
-module _ (ts : List Token) (n : ℕ) (old new : Records) (sound : All Sound ts) (w : RecordsWritten ts n old new) (room : roomFor (length ts) n old ≡ true) where
+module _ (ts : List Token) (old : Records) (sound : All Sound ts) where
+  abbrev new : Records
+  new = leaves (Writing.writes ts) old
+
   abbrev r : Records
   r = firstRecords (length ts) new
-
-  enough : (length ts ≤ length (old .kinds)) × (length ts ≤ length (old .numbers)) × (length ts ≤ length (old .places)) × (32 * n ≤ length (old .keys))
-  enough =
-      let k = leb (length ts) (length (old .kinds)) in
-      let m = leb (length ts) (length (old .numbers)) in
-      let p = leb (length ts) (length (old .places)) in
-      let a = and-true (k && m && p) (leb (32 * n) (length (old .keys))) room in
-      let b = and-true (k && m) p (a .0) in
-      let c = and-true k m (b .0) in (
-        leb-true (length ts) (length (old .kinds)) (c .0),
-        leb-true (length ts) (length (old .numbers)) (c .1),
-        leb-true (length ts) (length (old .places)) (b .1),
-        leb-true (32 * n) (length (old .keys)) (a .1),
-      )
 
   column : (f : Token → ℕ) (x : List ℕ) → take (length ts) (over (map f ts) x) ≡ map f ts
   column f x = take-at (map f ts) (drop (length (map f ts)) x) (length ts) (simp length-map)
 
   kinds-are : r .kinds ≡ map (λ t. t .kind) ts
-  kinds-are = ap (take (length ts)) (w .kinds) ∙ column (λ t. t .kind) (old .kinds)
+  kinds-are = column (λ t. t .kind) (old .kinds)
 
   numbers-are : r .numbers ≡ map (λ t. t .number) ts
-  numbers-are = ap (take (length ts)) (w .numbers) ∙ column (λ t. t .number) (old .numbers)
+  numbers-are = column (λ t. t .number) (old .numbers)
 
   count-is : length (r .kinds) ≡ length ts
   count-is = ap length kinds-are ∙ simp length-map
@@ -90,7 +79,7 @@ module _ (ts : List Token) (n : ℕ) (old new : Records) (sound : All Sound ts) 
   numbers-count = ap length numbers-are ∙ simp length-map
 
   places-count : length (r .places) ≡ length ts
-  places-count = length-take-le (length ts) (new .places) (omega (arith, w .placesCount, enough .2))
+  places-count = ap length (column (placeIn (keysOf ts)) (old .places)) ∙ simp length-map
 
   -- record by record
   module _ (i : ℕ) (h : i < length ts) where
@@ -108,7 +97,7 @@ module _ (ts : List Token) (n : ℕ) (old new : Records) (sound : All Sound ts) 
         ap (λ (k : ℕ). tokenOf k (getD (r .numbers) i 0) (keyOf r i)) kind-is
         ∙ ap (λ (m : ℕ). tokenOf (getD (new .kinds) i 0) m (keyOf r i)) number-is
         ∙ ap (λ (p : ℕ). tokenOf (getD (new .kinds) i 0) (getD (new .numbers) i 0) (take 32 (drop p (new .keys)))) place-is
-        ∙ written-tokens ts n old new sound w i h
+        ∙ written-tokens ts old sound i h
 
     record-sound : soundAt r i ≡ true
     record-sound =
@@ -119,7 +108,7 @@ module _ (ts : List Token) (n : ℕ) (old new : Records) (sound : All Sound ts) 
         subst (λ (k : ℕ). SoundAs k (getD (r .numbers) i 0) (t .key)) (sym kind)
         (subst (λ (m : ℕ). SoundAs (t .kind) m (t .key)) (sym number) (all-getD Sound ts i (op 0) (refl, refl) sound)) in
         let key : getD (r .kinds) i 0 ≡ 3 → leb (getD (r .places) i 0 + 32) (length (r .keys)) ≡ true =
-        λ e. le-leb (getD (r .places) i 0 + 32) (length (r .keys)) (omega (arith, place-is, w .placed .whole i h (sym kind ∙ e) .0, enough .3, w .keysCount)) in
+        λ e. le-leb (getD (r .places) i 0 + 32) (length (r .keys)) (omega (arith, place-is, key-stands ts old sound i h (sym kind ∙ e) .0)) in
         let numbered : i < length (r .numbers) = omega (arith, numbers-count) in
         let placed : i < length (r .places) = omega (arith, places-count) in
         rw (lt-ltb i (length (r .numbers)) numbered, lt-ltb i (length (r .places)) placed)
@@ -134,19 +123,18 @@ module _ (ts : List Token) (n : ℕ) (old new : Records) (sound : All Sound ts) 
   none-unsound = no-unsound r 0 (length (r .kinds)) (λ j h. subst (λ (k : ℕ). soundAt r k ≡ true) (sym (zero-add j)) (record-sound j (omega (arith, count-is))))
 
 -- what was written, where Write says that records were
-write-writes : (b : List ℕ) (a : Arith) (old : Records) (count keyBytes : ℕ) → condition b ≡ Condition.passed a → written (writing b old) ≡ Written.Records count keyBytes
-    → (writing b old ≡ Writing.writes (form a) (oracles a)) × (narrow (form a) ≡ true) × (roomFor (length (form a)) (oracles a) old ≡ true) × (count ≡ length (form a))
-unfolding writing
+write-writes : (b : List ℕ) (a : Arith) (old : Records) (count keyBytes : ℕ) → condition b ≡ Condition.passed a → wrote b old .answer ≡ Written.Records count keyBytes
+    → (writing b old ≡ Writing.writes (form a)) × (narrow (form a) ≡ true) × (count ≡ length (form a))
+unfolding writing wrote
 write-writes b a old count keyBytes e f =
-    rw e (go (narrow (form a)) refl (roomFor (length (form a)) (oracles a) old) refl (rw e at f))
+    rw e (go (narrow (form a)) (roomFor (length (form a)) (length (keysOf (form a))) old) (rw e at f))
   where
-    go : (x : Bool) → narrow (form a) ≡ x → (y : Bool) → roomFor (length (form a)) (oracles a) old ≡ y
-        → written (writesUnless (firstOf (unless x Refusal.IndexConstTooLarge ∷ unless y Refusal.BufferTooShort ∷ [])) a) ≡ Written.Records count keyBytes
-        → (writesUnless (firstOf (unless x Refusal.IndexConstTooLarge ∷ unless y Refusal.BufferTooShort ∷ [])) a ≡ Writing.writes (form a) (oracles a))
-        × (x ≡ true) × (y ≡ true) × (count ≡ length (form a))
-    go true p true q h = (refl, refl, refl, cc)
-    go true p false q h = let z : _≡_ {A = ℕ} 0 1 = cc in absurd (omega arith)
-    go false p y q h = let z : _≡_ {A = ℕ} 0 1 = cc in absurd (omega arith)
+    go : (x y : Bool) → written (writesUnless (firstOf (unless x Refusal.IndexConstTooLarge ∷ unless y Refusal.BufferTooShort ∷ [])) (form a)) ≡ Written.Records count keyBytes
+        → (writesUnless (firstOf (unless x Refusal.IndexConstTooLarge ∷ unless y Refusal.BufferTooShort ∷ [])) (form a) ≡ Writing.writes (form a))
+        × (x ≡ true) × (count ≡ length (form a))
+    go true true h = (refl, refl, cc)
+    go true false h = let z : _≡_ {A = ℕ} 0 1 = cc in absurd (omega arith)
+    go false y h = let z : _≡_ {A = ℕ} 0 1 = cc in absurd (omega arith)
 
 decode-form : (a : Arith) → oracleRule a ≡ none → decode (form a) ≡ Reading.accepted (code (canon a)) 0
 unfolding decode
@@ -154,18 +142,18 @@ decode-form a e =
     ap (λ (ts : List Token). reading (fromTokens ts)) (sym (append-nil (reverse (form a)))) ∙ ap reading (arith-reader .own a [])
     ∙ ap (λ (o : Option Refusal). unlessRuled o (canon a) 0) (oracleRule-canon a ∙ e)
 
--- THE ROUND TRIP, for a full-sized buffer: b is a condition a that passes, Write wrote `count` records, in whatever places its contract leaves to it for the keys
+-- THE ROUND TRIP, for a full-sized buffer: b is a condition a that passes, and Write wrote `count` records
 pub round-trip : (b : List ℕ) → Bytes b → (a : Arith) → condition b ≡ Condition.passed a
-    → (old new : Records) (count keyBytes : ℕ) → written (writing b old) ≡ Written.Records count keyBytes → Writes (writing b old) old new
-    → (buffer : List ℕ) → maxCode ≤ length buffer
-    → decoded (firstRecords count new) buffer ≡ record { answer = Decoded.Code (length (code (canon a))) 0; buffer = over (code (canon a)) buffer }
-round-trip b bytes a e old new count keyBytes wrote writes buffer full =
+    → (old : Records) (count keyBytes : ℕ) → wrote b old .answer ≡ Written.Records count keyBytes → (buffer : List ℕ) → maxCode ≤ length buffer
+    → decoded (firstRecords count (wrote b old .records)) buffer ≡ record { answer = Decoded.Code (length (code (canon a))) 0; buffer = over (code (canon a)) buffer }
+unfolding wrote
+round-trip b bytes a e old count keyBytes told buffer full =
     let p = passing b bytes a e in
-    let h = write-writes b a old count keyBytes e wrote in
+    let h = write-writes b a old count keyBytes e told in
     let ts = form a in
     let sound = form-sound a (p .encodable) (h .1) in
-    let w : RecordsWritten ts (oracles a) old new = subst (λ (x : Writing). Writes x old new) (h .0) writes in
-    let r = firstRecords (length ts) new in
-    ap (λ (n : ℕ). decoded (firstRecords n new) buffer) (h .3)
-    ∙ call-decodes r buffer (omega (arith, count-is ts (oracles a) old new sound w (h .2), p .few)) (none-unsound ts (oracles a) old new sound w (h .2)) full
-    ∙ ap (λ (l : List Token). decodedAs buffer (decode l)) (tokens-are ts (oracles a) old new sound w (h .2)) ∙ ap (decodedAs buffer) (decode-form a (p .rule))
+    let r = firstRecords (length ts) (leaves (Writing.writes ts) old) in
+    ap (λ (n : ℕ). decoded (firstRecords n (leaves (writing b old) old)) buffer) (h .2)
+    ∙ ap (λ (x : Writing). decoded (firstRecords (length ts) (leaves x old)) buffer) (h .0)
+    ∙ call-decodes r buffer (omega (arith, count-is ts old sound, p .few)) (none-unsound ts old sound) full
+    ∙ ap (λ (l : List Token). decodedAs buffer (decode l)) (tokens-are ts old sound) ∙ ap (decodedAs buffer) (decode-form a (p .rule))

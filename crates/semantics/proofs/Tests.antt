@@ -1,7 +1,7 @@
--- Laws of tests: both of two hold, three in a row, a number and itself.
+-- Laws of tests: both of two hold, three in a row, a number and itself, a choice.
 use Prim.Native.Nat.{ℕ}
 use mathlib.Core.Path.{_≡_, refl}
-use mathlib.Core.Bool.{Bool, true, false, _&&_}
+use mathlib.Core.Bool.{Bool, true, false, _&&_, cond}
 use borrow.Author.Tests.{eq-eqb}
 use lib.Dec.{eqb}
 
@@ -15,3 +15,8 @@ and-assoc false b c = refl
 
 pub eqb-own : (n : ℕ) → eqb n n ≡ true
 eqb-own n = eq-eqb n n refl
+
+-- what holds of either, by the test, holds of the choice
+pub choice : {A : Type 0} (P : A → Type 0) (b : Bool) (x y : A) → (b ≡ true → P x) → (b ≡ false → P y) → P (cond b x y)
+choice P true x y p q = p refl
+choice P false x y p q = q refl

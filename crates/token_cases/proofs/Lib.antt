@@ -1,5 +1,3 @@
 -- Laws of the definitions in specs/.
 pub mod Decoding
-pub mod Fronts
-pub mod Keys
-pub mod Knowing
+pub mod Writing

@@ -8,13 +8,7 @@ use lib.ListN.{List·getD-map, drop-of-length-le, length, take, drop, getD, set,
 use lib.Seq.{getD-take, take-suc, drop-cons, set-at, take-all, take-at, drop-at, drop-drop, length-take-le}
 use borrow.Rule.Slice.PartMut.{midOf, putMid}
 use Rattle.semantics.specs.Evaluate.{over}
-
-pub length-over : (ws xs : List ℕ) → length ws ≤ length xs → length (over ws xs) ≡ length xs
-length-over ws xs h = simp (length-append, length-drop) (omega arith)
-
--- what stands after what is written over
-pub rest-of : (ws xs : List ℕ) (n : ℕ) → length ws ≡ n → drop n (over ws xs) ≡ drop n xs
-rest-of ws xs n e = drop-at ws (drop (length ws) xs) n e ∙ ap (λ (m : ℕ). drop m xs) e
+use Rattle.semantics.proofs.Over.{length-over}
 
 -- a loop that writes the elements of vs, one a turn
 pub over-set

@@ -15,82 +15,68 @@ use Rattle.semantics.specs.declared.CmpOp.{CmpOp}
 use Rattle.semantics.specs.declared.Command.{Command}
 use Rattle.semantics.specs.declared.IdxOp.{IdxOp}
 use Rattle.semantics.specs.declared.UnOp.{UnOp}
-use Rattle.semantics.proofs.Forms.{keys-append}
 use Rattle.semantics.specs.Operations.{Token}
-use Rattle.token_form.specs.Fields.{bit, numberAt, payload, placeAt}
+use Rattle.token_form.specs.Fields.{bit, numberAt, payload}
 use Rattle.token_table.specs.TokenRows.{converted, ownTokens, tokensOf, tokenRow}
-use Rattle.token_form.specs.Storing.{keysOf, placesFrom}
 use Rattle.semantics.specs.Code.{known}
 
 abbrev kindsOf : List Token → List ℕ
 kindsOf = map (λ t. t .kind)
 
--- the key bytes and the places of tokens after others
-pub places-append : (p : ℕ) (ts us : List Token) → placesFrom p (ts ++ us) ≡ placesFrom p ts ++ placesFrom (p + length (keysOf ts)) us
-unfolding keysOf placesFrom
-places-append p [] us = rw add-zero
-places-append p (t ∷ ts) us =
-    let e : p + length (t .key) + length (keysOf ts) ≡ p + length (t .key ++ keysOf ts) = simp length-append (omega arith) in
-    rw (← e, places-append (p + length (t .key)) ts us)
-
 -- of a command's row: it begins with the kinds of the command's own tokens and a 7;
--- then the numbers, places and key bytes that go with these kinds
+-- then the numbers that go with these kinds
 abbrev Row : Command → Type 0
 Row c =
     (ltb (tokenRow c .count) 14 ≡ true)
     × ((n : List ℕ) → length (ownTokens c n) ≡ tokenRow c .count)
     × ((n : List ℕ) → take (tokenRow c .count + 1) (tokenRow c .kinds) ≡ kindsOf (ownTokens c n) ++ 7 ∷ [])
     × ((n : List ℕ) → map (numberAt (payload c n .number) (payload c n .bits)) (kindsOf (ownTokens c n)) ≡ map (λ t. t .number) (ownTokens c n))
-    × ((n : List ℕ) (p : ℕ) → map (placeAt p) (kindsOf (ownTokens c n)) ≡ placesFrom p (ownTokens c n))
-    × ((n : List ℕ) → keysOf (ownTokens c n) ≡ payload c n .key)
 
 row : (c : Command) → known c ≡ true → Row c
-unfolding placesFrom keysOf
 row Command.Unknown k = absurd (let z : _≡_ {A = ℕ} 0 1 = cc in omega arith)
-row Command.IdxConst k =
-    (refl, λ n. refl, λ n. refl, λ n. refl, λ n p. refl, λ n. refl)
-row Command.CurrIdx k = (refl, λ n. refl, λ n. refl, λ n. refl, λ n p. refl, λ n. refl)
+row Command.IdxConst k = (refl, λ n. refl, λ n. refl, λ n. refl)
+row Command.CurrIdx k = (refl, λ n. refl, λ n. refl, λ n. refl)
 row (Command.Index o) k =
     elim o [
-      | IdxOp.Add ↦ (refl, λ n. refl, λ n. refl, λ n. refl, λ n p. refl, λ n. refl)
-      | IdxOp.Sub ↦ (refl, λ n. refl, λ n. refl, λ n. refl, λ n p. refl, λ n. refl)
-      | IdxOp.Mul ↦ (refl, λ n. refl, λ n. refl, λ n. refl, λ n p. refl, λ n. refl)
-      | IdxOp.Div ↦ (refl, λ n. refl, λ n. refl, λ n. refl, λ n p. refl, λ n. refl)
+      | IdxOp.Add ↦ (refl, λ n. refl, λ n. refl, λ n. refl)
+      | IdxOp.Sub ↦ (refl, λ n. refl, λ n. refl, λ n. refl)
+      | IdxOp.Mul ↦ (refl, λ n. refl, λ n. refl, λ n. refl)
+      | IdxOp.Div ↦ (refl, λ n. refl, λ n. refl, λ n. refl)
     ]
-row Command.Const k = (refl, λ n. refl, λ n. refl, λ n. refl, λ n p. refl, λ n. refl)
-row Command.CurrInputIdx k = (refl, λ n. refl, λ n. refl, λ n. refl, λ n p. refl, λ n. refl)
+row Command.Const k = (refl, λ n. refl, λ n. refl, λ n. refl)
+row Command.CurrInputIdx k = (refl, λ n. refl, λ n. refl, λ n. refl)
 row (Command.Lookup l) k =
     elim l [
-      | AmountList.Input ↦ (refl, λ n. refl, λ n. refl, λ n. refl, λ n p. refl, λ n. refl)
-      | AmountList.Output ↦ (refl, λ n. refl, λ n. refl, λ n. refl, λ n p. refl, λ n. refl)
-      | AmountList.InputIssue ↦ (refl, λ n. refl, λ n. refl, λ n. refl, λ n p. refl, λ n. refl)
-      | AmountList.InputReIssue ↦ (refl, λ n. refl, λ n. refl, λ n. refl, λ n p. refl, λ n. refl)
+      | AmountList.Input ↦ (refl, λ n. refl, λ n. refl, λ n. refl)
+      | AmountList.Output ↦ (refl, λ n. refl, λ n. refl, λ n. refl)
+      | AmountList.InputIssue ↦ (refl, λ n. refl, λ n. refl, λ n. refl)
+      | AmountList.InputReIssue ↦ (refl, λ n. refl, λ n. refl, λ n. refl)
     ]
 row (Command.Binary o) k =
     elim o [
-      | BinOp.Add ↦ (refl, λ n. refl, λ n. refl, λ n. refl, λ n p. refl, λ n. refl)
-      | BinOp.Sub ↦ (refl, λ n. refl, λ n. refl, λ n. refl, λ n p. refl, λ n. refl)
-      | BinOp.Mul ↦ (refl, λ n. refl, λ n. refl, λ n. refl, λ n p. refl, λ n. refl)
-      | BinOp.Div ↦ (refl, λ n. refl, λ n. refl, λ n. refl, λ n p. refl, λ n. refl)
-      | BinOp.Mod ↦ (refl, λ n. refl, λ n. refl, λ n. refl, λ n p. refl, λ n. refl)
-      | BinOp.BitAnd ↦ (refl, λ n. refl, λ n. refl, λ n. refl, λ n p. refl, λ n. refl)
-      | BinOp.BitOr ↦ (refl, λ n. refl, λ n. refl, λ n. refl, λ n p. refl, λ n. refl)
-      | BinOp.Xor ↦ (refl, λ n. refl, λ n. refl, λ n. refl, λ n p. refl, λ n. refl)
+      | BinOp.Add ↦ (refl, λ n. refl, λ n. refl, λ n. refl)
+      | BinOp.Sub ↦ (refl, λ n. refl, λ n. refl, λ n. refl)
+      | BinOp.Mul ↦ (refl, λ n. refl, λ n. refl, λ n. refl)
+      | BinOp.Div ↦ (refl, λ n. refl, λ n. refl, λ n. refl)
+      | BinOp.Mod ↦ (refl, λ n. refl, λ n. refl, λ n. refl)
+      | BinOp.BitAnd ↦ (refl, λ n. refl, λ n. refl, λ n. refl)
+      | BinOp.BitOr ↦ (refl, λ n. refl, λ n. refl, λ n. refl)
+      | BinOp.Xor ↦ (refl, λ n. refl, λ n. refl, λ n. refl)
     ]
 row (Command.Unary o) k =
     elim o [
-      | UnOp.Invert ↦ (refl, λ n. refl, λ n. refl, λ n. refl, λ n p. refl, λ n. refl)
-      | UnOp.Negate ↦ (refl, λ n. refl, λ n. refl, λ n. refl, λ n p. refl, λ n. refl)
+      | UnOp.Invert ↦ (refl, λ n. refl, λ n. refl, λ n. refl)
+      | UnOp.Negate ↦ (refl, λ n. refl, λ n. refl, λ n. refl)
     ]
-row Command.PriceOracle1 k = (refl, λ n. refl, λ n. refl, λ n. refl, λ n p. simp add-zero, λ n. append-nil (take 32 n))
-row Command.PriceOracle1W k = (refl, λ n. refl, λ n. refl, λ n. refl, λ n p. simp add-zero, λ n. append-nil (take 32 n))
+row Command.PriceOracle1 k = (refl, λ n. refl, λ n. refl, λ n. refl)
+row Command.PriceOracle1W k = (refl, λ n. refl, λ n. refl, λ n. refl)
 row (Command.Compare o) k =
     elim o [
-      | CmpOp.Eq ↦ (refl, λ n. refl, λ n. refl, λ n. refl, λ n p. refl, λ n. refl)
-      | CmpOp.Lt ↦ (refl, λ n. refl, λ n. refl, λ n. refl, λ n p. refl, λ n. refl)
-      | CmpOp.Leq ↦ (refl, λ n. refl, λ n. refl, λ n. refl, λ n p. refl, λ n. refl)
-      | CmpOp.Gt ↦ (refl, λ n. refl, λ n. refl, λ n. refl, λ n p. refl, λ n. refl)
-      | CmpOp.Geq ↦ (refl, λ n. refl, λ n. refl, λ n. refl, λ n p. refl, λ n. refl)
+      | CmpOp.Eq ↦ (refl, λ n. refl, λ n. refl, λ n. refl)
+      | CmpOp.Lt ↦ (refl, λ n. refl, λ n. refl, λ n. refl)
+      | CmpOp.Leq ↦ (refl, λ n. refl, λ n. refl, λ n. refl)
+      | CmpOp.Gt ↦ (refl, λ n. refl, λ n. refl, λ n. refl)
+      | CmpOp.Geq ↦ (refl, λ n. refl, λ n. refl, λ n. refl)
     ]
 
 module _ (c : Command) (k : known c ≡ true) (n : List ℕ) where
@@ -113,13 +99,3 @@ module _ (c : Command) (k : known c ≡ true) (n : List ℕ) where
   pub tokens-numbers : (b : Bool) → map (numberAt (payload c n .number) (payload c n .bits)) (kindsOf (tokensOf c n b)) ≡ map (λ t. t .number) (tokensOf c n b)
   tokens-numbers true = simp map-append (rw (row c k .3 n))
   tokens-numbers false = simp append-nil (row c k .3 n)
-
-  pub tokens-places : (b : Bool) (p : ℕ) → map (placeAt p) (kindsOf (tokensOf c n b)) ≡ placesFrom p (tokensOf c n b)
-  unfolding placesFrom
-  tokens-places true p = simp (map-append, places-append) (rw (row c k .4 n p))
-  tokens-places false p = simp append-nil (row c k .4 n p)
-
-  pub tokens-keys : (b : Bool) → keysOf (tokensOf c n b) ≡ payload c n .key
-  unfolding keysOf
-  tokens-keys true = keys-append (ownTokens c n) (converted true) ∙ append-nil (keysOf (ownTokens c n)) ∙ row c k .5 n
-  tokens-keys false = simp append-nil (row c k .5 n)

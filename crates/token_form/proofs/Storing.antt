@@ -3,7 +3,7 @@ use Prim.Native.Nat.{ℕ, suc, _+_, _-_, _≤_, _<_}
 use mathlib.Core.Bool.{Bool, true, false}
 use mathlib.Core.Path.{_≡_, refl, sym, ap, _∙_}
 use mathlib.Core.List.{List, [], _∷_, _++_, map, map-append, append-assoc, append-nil}
-use native.Mathlib.Nat.{add-zero, zero-add}
+use native.Mathlib.Nat.{add-zero}
 use native.Mathlib.Omega.{arith}
 use borrow.Rule.Slice.PartMut.{midOf, putMid}
 use lib.Seq.{drop-drop, getD-drop}
@@ -13,20 +13,20 @@ use Rattle.semantics.specs.Evaluate.{over}
 use Rattle.semantics.specs.Code.{commandOf, commandRow, known}
 use Rattle.semantics.specs.Operations.{Token}
 use Rattle.semantics.specs.Parse.{Instruction, after, commandAt, fold, instructions, operandsAt}
-use Rattle.semantics.specs.Records.{Records, recordsOf}
 use Rattle.semantics.proofs.Machine.{fold-ends, fold-takes}
-use Rattle.semantics.proofs.Placing.{length-places}
+use Rattle.semantics.specs.Write.{placeIn}
+use Rattle.semantics.proofs.Over.{length-over}
 use Rattle.summary.specs.declared.Summary.{Summary}
-use Rattle.condition.specs.Walk.{next, start}
+use Rattle.condition.specs.Walk.{Coded, next, start}
 use Rattle.token_table.specs.declared.TokenRow.{TokenRow}
 use Rattle.token_form.specs.Fields.{bit, numberAt, payload, placeAt}
 use Rattle.semantics.specs.Parse.{operandBytes}
 use Rattle.token_table.specs.TokenRows.{tokensOf, tokenRow}
-use Rattle.token_form.specs.Storing.{Coded, Emission, Room, Stored, emitStep, emitted, keysOf, placesFrom}
+use Rattle.token_form.specs.Storing.{Columns, Emission, Room, Stored, columnsOf, emitStep, emitted}
 use Rattle.condition.proofs.Ahead.{Ahead, ahead-below, ahead-known, ahead-next, ahead-start, passes-on}
-use Rattle.token_form.proofs.Over.{length-over, over-lent, over-rest}
-use Rattle.semantics.proofs.Forms.{keys-append}
-use Rattle.token_form.proofs.Rows.{places-append, tokens-keys, tokens-kinds, tokens-length, tokens-numbers, tokens-places}
+use Rattle.token_form.proofs.Over.{over-lent, over-rest}
+use Rattle.token_form.proofs.Keyed.{placeFor, tokens-places}
+use Rattle.token_form.proofs.Rows.{tokens-kinds, tokens-length, tokens-numbers}
 
 -- ---- one command, of which `records` is the number of tokens
 
@@ -40,7 +40,7 @@ module _ (c : Command) (k : known c ≡ true) (n : List ℕ) (marked : Bool) (ow
   kinds-are : kinds ≡ map (λ t. t .kind) (tokensOf c n marked)
   kinds-are = rw (counted, is) (tokens-kinds c k n marked)
 
-  pub row-asks : (r : Records) → Room (tokensOf c n marked) r
+  pub row-asks : (r : Columns) → Room (tokensOf c n marked) r
       → (records ≤ length (own .kinds)) × (records ≤ length (r .kinds)) × (records ≤ length (r .numbers)) × (records ≤ length (r .places))
   row-asks r room =
       let l = ap length kinds-are ∙ length-map (tokensOf c n marked) (λ t. t .kind) in (
@@ -50,18 +50,17 @@ module _ (c : Command) (k : known c ≡ true) (n : List ℕ) (marked : Bool) (ow
         omega (arith, records-are, room .places),
       )
 
-  pub row-leaves : (number bits p : ℕ) (old new : Records) → (number ≡ payload c n .number) × (bits ≡ payload c n .bits)
+  pub row-leaves : (number bits place : ℕ) (ks : List (List ℕ)) (old new : Columns) → (number ≡ payload c n .number) × (bits ≡ payload c n .bits)
+      → place ≡ placeFor c n ks
       → new .kinds ≡ over kinds (old .kinds)
       → new .numbers ≡ over (map (numberAt number bits) kinds) (old .numbers)
-      → new .places ≡ over (map (placeAt p) kinds) (old .places)
-      → new .keys ≡ over (payload c n .key) (old .keys)
-      → Stored (tokensOf c n marked) p old new
-  row-leaves number bits p old new e x y z w =
+      → new .places ≡ over (map (placeAt place) kinds) (old .places)
+      → Stored (tokensOf c n marked) ks old new
+  row-leaves number bits place ks old new e p x y z =
       record {
         kinds = rw kinds-are at x;
         numbers = rw (kinds-are, e .0, e .1, tokens-numbers c k n marked) at y;
-        places = rw (kinds-are, tokens-places c k n marked p) at z;
-        keys = rw (← tokens-keys c k n marked) at w;
+        places = rw (kinds-are, p, tokens-places c n ks marked) at z;
       }
 
 -- ---- all commands up to a position
@@ -73,13 +72,11 @@ emitted-more (n ∷ ns) s =
     let r = emitted-more ns (emitStep s (commandOf (n .byte)) (n .operands)) in
     (tokensOf (commandOf (n .byte)) (n .operands) (getD (s .marks) 0 false) ++ r .0, r .1 ∙ simp append-assoc)
 
-within : (xs ys more all : List Token) → xs ++ ys ++ more ≡ all
-    → (length xs + length ys ≤ length all) × (length (keysOf xs) + length (keysOf ys) ≤ length (keysOf all))
-within xs ys more all e =
-    (omega (arith, simp length-append at (ap length e)), omega (arith, simp (keys-append, length-append) at (ap (λ (l : List Token). length (keysOf l)) e)))
+within : (xs ys more all : List Token) → xs ++ ys ++ more ≡ all → length xs + length ys ≤ length all
+within xs ys more all e = omega (arith, simp length-append at (ap length e))
 
--- n records and k key bytes are written over `old`, those of the commands before `at`
-pub record Progress (code : List ℕ) (marks : List Bool) (old now : Records) (at count n k : ℕ) : Type 0 where
+-- n records are written over `old`, those of the commands before `at`, with keys that stand as in ks
+pub record Progress (code : List ℕ) (marks : List Bool) (ks : List (List ℕ)) (old now : Columns) (at count n : ℕ) : Type 0 where
   pub last : Summary
   pub marks-fit : last .tokens ≤ length marks
   pub here : Summary
@@ -87,25 +84,23 @@ pub record Progress (code : List ℕ) (marks : List Bool) (old now : Records) (a
   pub done : List Token
   pub left : fold emitStep (record { marks = drop count marks; tokens = done }) (instructions (drop at code)) .tokens ≡ emitted code marks
   pub n-is : length done ≡ n
-  pub k-is : length (keysOf done) ≡ k
-  pub written : Stored done 0 old now
+  pub written : Stored done ks old now
 
-pub none-yet : (code : List ℕ) (marks : List Bool) (old : Records) → Coded code (length marks) → Progress code marks old old 0 0 0 0
-unfolding emitted keysOf placesFrom
-none-yet code marks old f =
+pub none-yet : (code : List ℕ) (marks : List Bool) (ks : List (List ℕ)) (old : Columns) → Coded code (length marks) → Progress code marks ks old old 0 0 0
+unfolding emitted
+none-yet code marks ks old f =
     record {
       last = f .last;
-      marks-fit = f .marks-fit;
+      marks-fit = f .fits;
       here = start;
       ahead = ahead-start code (f .last) (f .walk);
       done = [];
       left = refl;
       n-is = refl;
-      k-is = refl;
-      written = record { kinds = refl; numbers = refl; places = refl; keys = refl };
+      written = record { kinds = refl; numbers = refl; places = refl };
     }
 
-module _ (code : List ℕ) (marks : List Bool) (old now : Records) (at count n k : ℕ) (g : Progress code marks old now at count n k) where
+module _ (code : List ℕ) (marks : List Bool) (ks : List (List ℕ)) (old now : Columns) (at count n : ℕ) (g : Progress code marks ks old now at count n) where
   abbrev all : List Token
   all = emitted code marks
 
@@ -115,35 +110,30 @@ module _ (code : List ℕ) (marks : List Bool) (old now : Records) (at count n k
   numbers-length : length (map (λ t. t .number) (g .done)) ≡ n
   numbers-length = length-map (g .done) (λ t. t .number) ∙ g .n-is
 
-  places-length : length (placesFrom 0 (g .done)) ≡ n
-  places-length = length-places 0 (g .done) ∙ g .n-is
+  places-length : length (map (placeIn ks) (g .done)) ≡ n
+  places-length = length-map (g .done) (placeIn ks) ∙ g .n-is
 
   -- so much is written, within the buffers, which keep their lengths
   pub record Bounds : Type 0 where
     pub tokens : n ≤ length all
-    pub key-bytes : k ≤ length (keysOf all)
     pub kinds : length (now .kinds) ≡ length (old .kinds)
     pub numbers : length (now .numbers) ≡ length (old .numbers)
     pub places : length (now .places) ≡ length (old .places)
-    pub keys : length (now .keys) ≡ length (old .keys)
 
   pub bounds : Room all old → Bounds
   bounds room =
       let m = emitted-more (instructions (drop at code)) (record { marks = drop count marks; tokens = g .done }) in
       let e : g .done ++ m .0 ≡ all = sym (m .1) ∙ g .left in
       let t : n ≤ length all = omega (arith, simp length-append at (ap length e), g .n-is) in
-      let y : k ≤ length (keysOf all) = omega (arith, simp (keys-append, length-append) at (ap (λ (l : List Token). length (keysOf l)) e), g .k-is) in
       let w = g .written in
       record {
         tokens = t;
-        key-bytes = y;
         kinds = ap length (w .kinds) ∙ length-over (map (λ t. t .kind) (g .done)) (old .kinds) (omega (arith, kinds-length, room .kinds));
         numbers = ap length (w .numbers) ∙ length-over (map (λ t. t .number) (g .done)) (old .numbers) (omega (arith, numbers-length, room .numbers));
-        places = ap length (w .places) ∙ length-over (placesFrom 0 (g .done)) (old .places) (omega (arith, places-length, room .places));
-        keys = ap length (w .keys) ∙ length-over (keysOf (g .done)) (old .keys) (omega (arith, g .k-is, room .keys));
+        places = ap length (w .places) ∙ length-over (map (placeIn ks) (g .done)) (old .places) (omega (arith, places-length, room .places));
       }
 
-  pub all-done : length code ≤ at → Stored all 0 old now
+  pub all-done : length code ≤ at → Stored all ks old now
   all-done h =
       let e : g .done ≡ all = sym (ap (λ (s : Emission). s .tokens) (fold-ends emitStep code at h (record { marks = drop count marks; tokens = g .done }))) ∙ g .left in
       rw e at (g .written)
@@ -179,16 +169,13 @@ module _ (code : List ℕ) (marks : List Bool) (old now : Records) (at count n k
         (m .0, sym (m .1) ∙ left-now)
 
     pub more-tokens : n + length tokensHere ≤ length all
-    more-tokens = omega (arith, within (g .done) tokensHere (more .0) all (more .1) .0, g .n-is)
+    more-tokens = omega (arith, within (g .done) tokensHere (more .0) all (more .1), g .n-is)
 
-    pub more-keys : k + length (keysOf tokensHere) ≤ length (keysOf all)
-    more-keys = omega (arith, within (g .done) tokensHere (more .0) all (more .1) .1, g .k-is)
-
-    -- what is lent to the command: the rest of the buffers
-    abbrev pub lent : Records
+    -- what is lent to the command: the rest of the columns
+    abbrev pub lent : Columns
     lent =
-        recordsOf (midOf n (length (now .kinds) - n) (now .kinds)) (midOf n (length (now .numbers) - n) (now .numbers))
-        (midOf n (length (now .places) - n) (now .places)) (midOf k (length (now .keys) - k) (now .keys))
+        columnsOf (midOf n (length (now .kinds) - n) (now .kinds)) (midOf n (length (now .numbers) - n) (now .numbers))
+        (midOf n (length (now .places) - n) (now .places))
 
     pub room-left : Room all old → Room tokensHere lent
     room-left room =
@@ -198,20 +185,20 @@ module _ (code : List ℕ) (marks : List Bool) (old now : Records) (at count n k
           numbers =
               over-rest (map (λ t. t .number) (g .done)) (old .numbers) (now .numbers) n _ numbers-length (w .numbers)
               (omega (arith, more-tokens, room .numbers));
-          places = over-rest (placesFrom 0 (g .done)) (old .places) (now .places) n _ places-length (w .places) (omega (arith, more-tokens, room .places));
-          keys = over-rest (keysOf (g .done)) (old .keys) (now .keys) k _ (g .k-is) (w .keys) (omega (arith, more-keys, room .keys));
+          places =
+              over-rest (map (placeIn ks) (g .done)) (old .places) (now .places) n _ places-length (w .places)
+              (omega (arith, more-tokens, room .places));
         }
 
-    -- and what it wrote there comes back with the buffers
-    pub one-more : (new : Records) (records key-bytes : ℕ) → (records ≡ length tokensHere) × (key-bytes ≡ length (keysOf tokensHere)) → Stored tokensHere k lent new
-        → Progress code marks old
-        (recordsOf (putMid n (length (now .kinds) - n) (now .kinds) (new .kinds)) (putMid n (length (now .numbers) - n) (now .numbers) (new .numbers))
-        (putMid n (length (now .places) - n) (now .places) (new .places)) (putMid k (length (now .keys) - k) (now .keys) (new .keys)))
-        (after code at) (count + 1) (n + records) (k + key-bytes)
-    one-more new records key-bytes e v =
+    -- and what it wrote there comes back with the columns
+    pub one-more : (new : Columns) (records : ℕ) → records ≡ length tokensHere → Stored tokensHere ks lent new
+        → Progress code marks ks old
+        (columnsOf (putMid n (length (now .kinds) - n) (now .kinds) (new .kinds)) (putMid n (length (now .numbers) - n) (now .numbers) (new .numbers))
+        (putMid n (length (now .places) - n) (now .places) (new .places)))
+        (after code at) (count + 1) (n + records)
+    one-more new records e v =
         let w = g .written in
         let ts = tokensHere in
-        let base : 0 + length (keysOf (g .done)) ≡ k = zero-add _ ∙ g .k-is in
         record {
           last = g .last;
           marks-fit = g .marks-fit;
@@ -219,23 +206,15 @@ module _ (code : List ℕ) (marks : List Bool) (old now : Records) (at count n k
           ahead = ahead-next code (g .last) (g .here) at count (g .ahead) inside;
           done = g .done ++ ts;
           left = left-now;
-          n-is = length-append (g .done) ts ∙ omega (arith, g .n-is, e .0);
-          k-is = ap length (keys-append (g .done) ts) ∙ length-append (keysOf (g .done)) (keysOf ts) ∙ omega (arith, g .k-is, e .1);
-          written =
-              record {
-                kinds =
-                    over-lent (map (λ t. t .kind) (g .done)) (map (λ t. t .kind) ts) (old .kinds) (now .kinds) (new .kinds) n kinds-length (w .kinds) (v .kinds)
-                    ∙ ap (λ (l : List ℕ). over l (old .kinds)) (sym (map-append (λ t. t .kind) (g .done) ts));
-                numbers =
-                    over-lent (map (λ t. t .number) (g .done)) (map (λ t. t .number) ts) (old .numbers) (now .numbers) (new .numbers) n numbers-length (w .numbers)
-                    (v .numbers)
-                    ∙ ap (λ (l : List ℕ). over l (old .numbers)) (sym (map-append (λ t. t .number) (g .done) ts));
-                places =
-                    over-lent (placesFrom 0 (g .done)) (placesFrom k ts) (old .places) (now .places) (new .places) n places-length (w .places) (v .places)
-                    ∙ ap (λ (l : List ℕ). over l (old .places))
-                    (sym (places-append 0 (g .done) ts ∙ ap (λ (p : ℕ). placesFrom 0 (g .done) ++ placesFrom p ts) base));
-                keys =
-                    over-lent (keysOf (g .done)) (keysOf ts) (old .keys) (now .keys) (new .keys) k (g .k-is) (w .keys) (v .keys)
-                    ∙ ap (λ (l : List ℕ). over l (old .keys)) (sym (keys-append (g .done) ts));
-              };
+          n-is = length-append (g .done) ts ∙ omega (arith, g .n-is, e);
+          written = record {
+            kinds = column (λ t. t .kind) (old .kinds) (now .kinds) (new .kinds) kinds-length (w .kinds) (v .kinds);
+            numbers = column (λ t. t .number) (old .numbers) (now .numbers) (new .numbers) numbers-length (w .numbers) (v .numbers);
+            places = column (placeIn ks) (old .places) (now .places) (new .places) places-length (w .places) (v .places);
+          };
         }
+      where
+        column : (f : Token → ℕ) (xs mid last : List ℕ) → length (map f (g .done)) ≡ n → mid ≡ over (map f (g .done)) xs
+            → last ≡ over (map f tokensHere) (midOf n (length mid - n) mid) → putMid n (length mid - n) mid last ≡ over (map f (g .done ++ tokensHere)) xs
+        column f xs mid last l p q =
+            over-lent (map f (g .done)) (map f tokensHere) xs mid last n l p q ∙ ap (λ (ys : List ℕ). over ys xs) (sym (map-append f (g .done) tokensHere))

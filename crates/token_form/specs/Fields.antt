@@ -4,11 +4,11 @@ use mathlib.Core.Bool.{Bool, cond, false}
 use mathlib.Core.Path.{_≡_}
 use mathlib.Core.List.{List, [], _∷_}
 use lib.Dec.{eqb}
-use lib.ListN.{take, drop}
+use lib.ListN.{drop}
 use Rattle.slices.specs.Bytes.{bytesValue}
 use Rattle.semantics.specs.declared.Command.{Command}
 use Rattle.semantics.specs.Code.{commandRow}
-use Rattle.semantics.specs.Operations.{Token, op}
+use Rattle.semantics.specs.Operations.{op}
 use Rattle.token_table.specs.TokenRows.{ownTokens}
 
 -- the tokens that a mark adds
@@ -22,27 +22,26 @@ numberAt number bits kind = cond (eqb kind 1) number (cond (eqb kind 2) bits 0)
 abbrev pub placeAt : ℕ → ℕ → ℕ
 placeAt place kind = cond (eqb kind 3) place 0
 
--- what a command's operand bytes give its tokens: the number of a Num, which is 1 but for an index constant, that of a Bytes8, and a key
+-- what a command's operand bytes give its tokens: the number of a Num, which is 1 but for an index constant, and that of a Bytes8
 pub record Payload : Type 0 where
   pub number : ℕ
   pub bits : ℕ
-  pub key : List ℕ
 
 abbrev none : Payload
-none = record { number = 1; bits = 0; key = [] }
+none = record { number = 1; bits = 0 }
 
 abbrev pub payload : Command → List ℕ → Payload
 payload Command.Unknown n = none
-payload Command.IdxConst n = record { number = bytesValue n; bits = 0; key = [] }
+payload Command.IdxConst n = record { number = bytesValue n; bits = 0 }
 payload Command.CurrIdx n = none
 payload (Command.Index o) n = none
-payload Command.Const n = record { number = 1; bits = bytesValue n; key = [] }
+payload Command.Const n = record { number = 1; bits = bytesValue n }
 payload Command.CurrInputIdx n = none
 payload (Command.Lookup l) n = none
 payload (Command.Binary o) n = none
 payload (Command.Unary o) n = none
-payload Command.PriceOracle1 n = record { number = 1; bits = bytesValue (drop 32 n); key = take 32 n }
-payload Command.PriceOracle1W n = record { number = 1; bits = bytesValue (drop 32 n); key = take 32 n }
+payload Command.PriceOracle1 n = record { number = 1; bits = bytesValue (drop 32 n) }
+payload Command.PriceOracle1W n = record { number = 1; bits = bytesValue (drop 32 n) }
 payload (Command.Compare o) n = none
 
 -- the kind of a command's only token: one that carries nothing, or the number of eight operand bytes; of 0 nothing is said

@@ -1,4 +1,4 @@
-// The records of a condition's tokens, command by command: each command is lent the rest of the four buffers.
+// The records of a condition's tokens, command by command: each command is lent the rest of the three columns.
 // `Command::Unknown` is not met: Check has turned down code that has it, and `write_command` asks for a known command.
 use commands::command_of;
 use commands::width_of;
@@ -11,11 +11,12 @@ ghost use Prim.Native.Nat.{_+_, _≤_, _<_, _^_};
 ghost use lib.ListN.{length, take};
 ghost use Rattle.semantics.specs.Code.{commandOf, commandRow, known};
 ghost use Rattle.semantics.specs.Evaluate.{over};
+ghost use Rattle.condition.specs.Walk.{Coded};
+ghost use Rattle.keys.specs.Keys.{Noted, keysAt};
 ghost use Rattle.token_form.specs.Fields.{Single, bit, numberAt, payload, placeAt};
 ghost use Rattle.semantics.specs.Parse.{operandBytes};
 ghost use Rattle.token_table.specs.TokenRows.{tokensOf};
-ghost use Rattle.semantics.specs.Records.{recordsOf};
-ghost use Rattle.token_form.specs.Storing.{Coded, Room, Stored, emitted, keysOf};
+ghost use Rattle.token_form.specs.Storing.{Room, Stored, columnsOf, emitted};
 
 // Kinds of tokens that carry something.
 const NUM: u8 = 1;
@@ -111,34 +112,6 @@ fn write_row(
     }
 }
 
-// A command's key, if it has one; its operand bytes stand at `at`. The answer is the number of key bytes.
-fn write_key(command: Command, code: &[u8], at: usize, keys: &mut [u8]) -> usize
-    requires { ⌜ (at + commandRow command .width ≤ length (now code)) × (length (payload command (operandBytes command (now code) at) .key) ≤ length (now keys)) ⌝ }
-    ensures { λ r. ⌜ r ≡ length (payload command (operandBytes command (now (code .entry)) at) .key) ⌝ }
-    ensures { λ _. ⌜ now (keys .exit) ≡ over (payload command (operandBytes command (now (code .entry)) at) .key) (now (keys .entry)) ⌝ }
-{
-    match command {
-        Command::Unknown => 0,
-        Command::IdxConst => 0,
-        Command::CurrIdx => 0,
-        Command::Index(_) => 0,
-        Command::Const => 0,
-        Command::CurrInputIdx => 0,
-        Command::Lookup(_) => 0,
-        Command::Binary(_) => 0,
-        Command::Unary(_) => 0,
-        Command::PriceOracle1 => {
-            slices::copy(code, at, keys, 0, 32);
-            32
-        }
-        Command::PriceOracle1W => {
-            slices::copy(code, at, keys, 0, 32);
-            32
-        }
-        Command::Compare(_) => 0,
-    }
-}
-
 // The tokens of a command: its own, and ScriptNumToLe64 where it is marked.
 fn count_of(own: usize, marked: bool) -> usize
     requires { ⌜ own < 14 ⌝ }
@@ -147,45 +120,40 @@ fn count_of(own: usize, marked: bool) -> usize
     if marked { own + 1 } else { own }
 }
 
-// How many records and key bytes a command took.
-struct Taken {
-    records: usize,
-    key_bytes: usize,
-}
-
-// The records of a command, whose operand bytes stand at `at`, at the front of what it is lent; its key, if it has one, stands at `place` in the whole key buffer.
+// The records of a command, whose operand bytes stand at `at`, at the front of what it is lent; its key, if it has one, is among those at the first
+// `key_count` positions. The answer is the number of records.
 fn write_command(
     command: Command,
     marked: bool,
     code: &[u8],
     at: usize,
-    place: usize,
+    positions: &[u16],
+    key_count: usize,
     kinds: &mut [u8],
     numbers: &mut [u64],
     places: &mut [u32],
-    keys: &mut [u8],
-) -> Taken
-    requires { ⌜ (known command ≡ true) × (at + commandRow command .width ≤ length (now code)) × (place < 2 ^ 32) ⌝ }
-    requires { ⌜ Room (tokensOf command (operandBytes command (now code) at) marked) (recordsOf (now kinds) (now numbers) (now places) (now keys)) ⌝ }
-    ensures { λ r. ⌜ (r .records ≡ length (tokensOf command (operandBytes command (now (code .entry)) at) marked)) × (r .«key_bytes» ≡ length (keysOf (tokensOf command (operandBytes command (now (code .entry)) at) marked))) ⌝ }
-    ensures { λ _. ⌜ Stored (tokensOf command (operandBytes command (now (code .entry)) at) marked) place (recordsOf (now (kinds .entry)) (now (numbers .entry)) (now (places .entry)) (now (keys .entry))) (recordsOf (now (kinds .exit)) (now (numbers .exit)) (now (places .exit)) (now (keys .exit))) ⌝ }
+) -> usize
+    requires { ⌜ (known command ≡ true) × (at + commandRow command .width ≤ length (now code)) × («key_count» < 2 ^ 16) × Noted (now code) (now positions) «key_count» ⌝ }
+    requires { ⌜ Room (tokensOf command (operandBytes command (now code) at) marked) (columnsOf (now kinds) (now numbers) (now places)) ⌝ }
+    ensures { λ r. ⌜ r ≡ length (tokensOf command (operandBytes command (now (code .entry)) at) marked) ⌝ }
+    ensures { λ _. ⌜ Stored (tokensOf command (operandBytes command (now (code .entry)) at) marked) (keysAt (now (code .entry)) (now (positions .entry)) «key_count») (columnsOf (now (kinds .entry)) (now (numbers .entry)) (now (places .entry))) (columnsOf (now (kinds .exit)) (now (numbers .exit)) (now (places .exit))) ⌝ }
 {
     let own = token_row(command);
     let row = own.kinds;
     let records = count_of(own.count, marked);
     let n = numbers_of(command, code, at);
+    let place = keys::place_of(width_of(command), code, at, positions, key_count);
     write_row(
         &row,
         records,
         n.number,
         n.bits,
-        place as u32,
+        place,
         kinds,
         numbers,
         places,
     );
-    let key_bytes = write_key(command, code, at, keys);
-    Taken { records, key_bytes }
+    records
 }
 
 // The kind of the only token of a byte's command, or 0 where it has more.
@@ -223,22 +191,10 @@ fn write_one(kind: u8, number: u64, kinds: &mut [u8], numbers: &mut [u64], place
     places[0] = 0;
 }
 
-// How many records and key bytes a byte's command took, and how many operand bytes it has.
+// How many records a byte's command took, and how many operand bytes it has.
 struct Next {
     records: usize,
-    key_bytes: usize,
     width: usize,
-}
-
-// One record without a key, of a command with so many operand bytes.
-fn one_record(width: usize) -> Next
-    ensures { λ r. ⌜ r ≡ record { records = 1; «key_bytes» = 0; width = width } ⌝ }
-{
-    Next {
-        records: 1,
-        key_bytes: 0,
-        width,
-    }
 }
 
 // The records of a byte's command, as `write_command` writes them; most commands have one token, which is written at once.
@@ -247,79 +203,83 @@ fn write_next(
     marked: bool,
     code: &[u8],
     at: usize,
-    place: usize,
+    positions: &[u16],
+    key_count: usize,
     kinds: &mut [u8],
     numbers: &mut [u64],
     places: &mut [u32],
-    keys: &mut [u8],
 ) -> Next
-    requires { ⌜ (known (commandOf byte) ≡ true) × (at + commandRow (commandOf byte) .width ≤ length (now code)) × (place < 2 ^ 32) ⌝ }
-    requires { ⌜ Room (tokensOf (commandOf byte) (operandBytes (commandOf byte) (now code) at) marked) (recordsOf (now kinds) (now numbers) (now places) (now keys)) ⌝ }
-    ensures { λ r. ⌜ (r .records ≡ length (tokensOf (commandOf byte) (operandBytes (commandOf byte) (now (code .entry)) at) marked)) × (r .«key_bytes» ≡ length (keysOf (tokensOf (commandOf byte) (operandBytes (commandOf byte) (now (code .entry)) at) marked))) × (r .width ≡ commandRow (commandOf byte) .width) ⌝ }
-    ensures { λ _. ⌜ Stored (tokensOf (commandOf byte) (operandBytes (commandOf byte) (now (code .entry)) at) marked) place (recordsOf (now (kinds .entry)) (now (numbers .entry)) (now (places .entry)) (now (keys .entry))) (recordsOf (now (kinds .exit)) (now (numbers .exit)) (now (places .exit)) (now (keys .exit))) ⌝ }
+    requires { ⌜ (known (commandOf byte) ≡ true) × (at + commandRow (commandOf byte) .width ≤ length (now code)) × («key_count» < 2 ^ 16) × Noted (now code) (now positions) «key_count» ⌝ }
+    requires { ⌜ Room (tokensOf (commandOf byte) (operandBytes (commandOf byte) (now code) at) marked) (columnsOf (now kinds) (now numbers) (now places)) ⌝ }
+    ensures { λ r. ⌜ (r .records ≡ length (tokensOf (commandOf byte) (operandBytes (commandOf byte) (now (code .entry)) at) marked)) × (r .width ≡ commandRow (commandOf byte) .width) ⌝ }
+    ensures { λ _. ⌜ Stored (tokensOf (commandOf byte) (operandBytes (commandOf byte) (now (code .entry)) at) marked) (keysAt (now (code .entry)) (now (positions .entry)) «key_count») (columnsOf (now (kinds .entry)) (now (numbers .entry)) (now (places .entry))) (columnsOf (now (kinds .exit)) (now (numbers .exit)) (now (places .exit))) ⌝ }
 {
     if !marked {
         let kind = kind_of(byte);
         if BYTES8 < kind {
             write_one(kind, 0, kinds, numbers, places);
-            return one_record(0);
+            return Next {
+                records: 1,
+                width: 0,
+            };
         }
         if kind != 0 {
             let number = slices::read_le64(code, at);
             write_one(kind, number, kinds, numbers, places);
-            return one_record(8);
+            return Next {
+                records: 1,
+                width: 8,
+            };
         }
     }
     let command = command_of(byte);
-    let taken = write_command(
+    let records = write_command(
         command,
         marked,
         code,
         at,
-        place,
+        positions,
+        key_count,
         kinds,
         numbers,
         places,
-        keys,
     );
     Next {
-        records: taken.records,
-        key_bytes: taken.key_bytes,
+        records,
         width: width_of(command),
     }
 }
 
-// The records of all commands, of which `marks` says which are marked.
+// The records of all commands, of which `marks` says which are marked; their keys are those at the first `key_count` positions.
 pub fn write_records(
     code: &[u8],
     marks: &[bool],
+    positions: &[u16],
+    key_count: usize,
     kinds: &mut [u8],
     numbers: &mut [u64],
     places: &mut [u32],
-    keys: &mut [u8],
 )
-    requires { ⌜ Coded (now code) (length (now marks)) × (length (keysOf (emitted (now code) (now marks))) < 2 ^ 32) ⌝ }
-    requires { ⌜ Room (emitted (now code) (now marks)) (recordsOf (now kinds) (now numbers) (now places) (now keys)) ⌝ }
-    ensures { λ _. ⌜ Stored (emitted (now (code .entry)) (now (marks .entry))) 0 (recordsOf (now (kinds .entry)) (now (numbers .entry)) (now (places .entry)) (now (keys .entry))) (recordsOf (now (kinds .exit)) (now (numbers .exit)) (now (places .exit)) (now (keys .exit))) ⌝ }
+    requires { ⌜ Coded (now code) (length (now marks)) × («key_count» < 2 ^ 16) × Noted (now code) (now positions) «key_count» ⌝ }
+    requires { ⌜ Room (emitted (now code) (now marks)) (columnsOf (now kinds) (now numbers) (now places)) ⌝ }
+    ensures { λ _. ⌜ Stored (emitted (now (code .entry)) (now (marks .entry))) (keysAt (now (code .entry)) (now (positions .entry)) «key_count») (columnsOf (now (kinds .entry)) (now (numbers .entry)) (now (places .entry))) (columnsOf (now (kinds .exit)) (now (numbers .exit)) (now (places .exit))) ⌝ }
 {
     let mut at = 0;
     let mut count = 0;
     let mut n = 0;
-    let mut k = 0;
     while at < code.len() {
         let taken = write_next(
             code[at],
             marks[count],
             code,
             at + 1,
-            k,
+            positions,
+            key_count,
             &mut kinds[n..],
             &mut numbers[n..],
             &mut places[n..],
-            &mut keys[k..],
         );
         n += taken.records;
-        k += taken.key_bytes;
         count += 1;
         at = at + 1 + taken.width;
     }

@@ -1,37 +1,45 @@
--- What Write answers, by Check's answer, the tests of 6 and 7, and what the pass over the commands wrote.
+-- What Write answers, by Check's answer, the tests of 6 and 7, and what the passes over the commands found and wrote.
 use Prim.Native.Nat.{ℕ, _*_, _≤_, _<_, _^_}
-use mathlib.Core.Bool.{Bool, true, false, _&&_}
+use mathlib.Core.Bool.{Bool, true, false}
 use mathlib.Core.Path.{_≡_, refl, sym, ap, _∙_}
-use mathlib.Core.List.{List, [], _∷_, _++_}
+use mathlib.Core.List.{List, [], _∷_, _++_, map}
 use native.Mathlib.Omega.{arith}
-use borrow.Author.Tests.{leb-true}
+use borrow.Author.Tests.{leb-true, leb-false}
 use lib.Dec.{leb}
-use lib.ListN.{length, drop}
+use lib.ListN.{length}
 use Rattle.slices.specs.Bytes.{Bytes}
 use Rattle.semantics.specs.declared.Checked.{Checked}
 use Rattle.semantics.specs.declared.Refusal.{Refusal}
 use Rattle.semantics.specs.declared.Written.{Written}
-use Rattle.semantics.specs.Check.{checked, condition, firstOf, unless}
-use Rattle.semantics.specs.Oracle.{oracles}
-use Rattle.semantics.specs.Records.{Records}
+use Rattle.semantics.specs.Check.{answered, checked, condition, firstOf, unless}
+use Rattle.semantics.specs.Code.{maxCode}
+use Rattle.semantics.specs.Evaluate.{over}
+use Rattle.semantics.specs.Operations.{Token}
+use Rattle.semantics.specs.Records.{Records, recordsOf}
 use Rattle.semantics.specs.Token.{form, narrow}
 use Rattle.semantics.specs.Trees.{Arith}
-use Rattle.semantics.specs.Write.{roomFor, writesUnless, writing}
-use Rattle.semantics.proofs.Forms.{form-keys, form-sound}
-use Rattle.semantics.proofs.Passing.{Passed, answered-refused, passed}
-use Rattle.semantics.proofs.Placing.{in-order, length-places}
-use Rattle.semantics.proofs.Tests.{and-true}
-use Rattle.condition.proofs.Onward.{accepted, few-oracles}
-use Rattle.writer.specs.Postcondition.{Postcondition}
+use Rattle.semantics.specs.Write.{Writing, Wrote, joined, keysOf, placeIn, roomFor, writesUnless, writing, wrote}
+use Rattle.semantics.proofs.Passing.{Passed, answered-refused, passed, too-long}
+use Rattle.semantics.proofs.Forms.{form-keys}
+use Rattle.semantics.proofs.Placing.{keys-few}
+use Rattle.semantics.proofs.Room.{has-room}
+use Rattle.condition.specs.Walk.{Coded}
+use Rattle.condition.proofs.Onward.{accepted}
 use Rattle.conversions.specs.Marks.{Fits, marksOf, narrowCode}
-use Rattle.token_form.specs.Storing.{Coded, Room, Stored, emitted, keysOf, placesFrom}
+use Rattle.keys.specs.Keys.{KeysFound, codeKeys, keysAt}
+use Rattle.keys.proofs.Noting.{keys-count}
+use Rattle.token_form.specs.Storing.{Room, Stored, columnsOf, emitted}
+use Rattle.token_form.proofs.Keyed.{code-keys}
 use Rattle.writer.proofs.OfTree.{emitted-form, narrow-emitted}
-use Rattle.token_form.proofs.Over.{length-over, rest-of}
+
+-- with code b and the records old it answers r and leaves the records new
+abbrev pub Outcome : List ℕ → Records → Written → Records → Type 0
+Outcome b old r new = _≡_ {A = Wrote} (record { answer = r; records = new }) (wrote b old)
 
 -- 1 to 5
-pub refused-first : (b : List ℕ) (old : Records) (r : Refusal) → checked b ≡ Checked.Refused r → Postcondition b old (Written.Refused r) old
-unfolding checked writing
-refused-first b old r e = rw (answered-refused (condition b) r e) (refl, refl)
+pub refused-first : (b : List ℕ) (old : Records) (r : Refusal) → checked b ≡ Checked.Refused r → Outcome b old (Written.Refused r) old
+unfolding checked writing wrote
+refused-first b old r e = rw (answered-refused (condition b) r e)
 
 -- the arrays have room
 pub fits : (b : List ℕ) (t m waiting marks : ℕ) → checked b ≡ Checked.Passed t m → t ≤ waiting → t ≤ marks → Fits b waiting marks
@@ -45,8 +53,19 @@ fits b t m waiting marks e h k =
       marks-fit = omega (arith, a .tokens-are, k);
     }
 
-pub coded : (b : List ℕ) (t m marks : ℕ) → checked b ≡ Checked.Passed t m → t ≤ marks → Coded b marks
-coded b t m marks e h = let a = accepted b t m e in record { last = a .last; walk = a .walk; marks-fit = omega (arith, a .tokens-are, h) }
+pub coded : (b : List ℕ) (t m room : ℕ) → checked b ≡ Checked.Passed t m → t ≤ room → Coded b room
+coded b t m room e h = let a = accepted b t m e in record { last = a .last; walk = a .walk; fits = omega (arith, a .tokens-are, h) }
+
+-- positions in it are 16 bits wide
+pub short : (b : List ℕ) (t m : ℕ) → checked b ≡ Checked.Passed t m → length b < 2 ^ 16
+unfolding checked
+short b t m e = go (leb (length b) maxCode) refl
+  where
+    go : (x : Bool) → leb (length b) maxCode ≡ x → length b < 2 ^ 16
+    go true q = omega (arith, leb-true (length b) maxCode q)
+    go false q =
+        let r : Checked.Refused Refusal.CodeTooLong ≡ Checked.Passed t m = ap answered (sym (too-long b (leb-false (length b) maxCode q))) ∙ e in
+        absurd (let z : _≡_ {A = ℕ} 0 1 = cc in omega arith)
 
 -- a condition that passes is a tree
 module _ (b : List ℕ) (bytes : Bytes b) (old : Records) (t m : ℕ) (passes : checked b ≡ Checked.Passed t m) where
@@ -63,55 +82,62 @@ module _ (b : List ℕ) (bytes : Bytes b) (old : Records) (t m : ℕ) (passes : 
   narrow-is : narrow (form tree) ≡ narrowCode b
   narrow-is = ap narrow (sym (tokens-are (marksOf b ++ []) [] refl)) ∙ narrow-emitted b (marksOf b ++ [])
 
-  keys-are : length (keysOf (form tree)) ≡ 32 * m
-  keys-are = form-keys tree (known .told .encodable) ∙ ap (λ (n : ℕ). 32 * n) (known .terminals)
-
   guards : writing b old
-      ≡ writesUnless (firstOf (unless (narrowCode b) Refusal.IndexConstTooLarge ∷ unless (roomFor t m old) Refusal.BufferTooShort ∷ [])) tree
+      ≡ writesUnless (firstOf (unless (narrowCode b) Refusal.IndexConstTooLarge ∷ unless (roomFor t (length (keysOf (form tree))) old) Refusal.BufferTooShort ∷ [])) (form tree)
   unfolding writing
-  guards = rw (known .is, narrow-is, known .tokens, known .terminals)
+  guards = rw (known .is, narrow-is, known .tokens)
 
-  pub refused-narrow : narrowCode b ≡ false → Postcondition b old (Written.Refused Refusal.IndexConstTooLarge) old
-  refused-narrow e = rw (guards, e) (refl, refl)
+  pub refused-narrow : narrowCode b ≡ false → Outcome b old (Written.Refused Refusal.IndexConstTooLarge) old
+  unfolding wrote
+  refused-narrow e = let g : writing b old ≡ Writing.refused Refusal.IndexConstTooLarge = guards ∙ rw e in rw g
 
-  module _ (narrow-code : narrowCode b ≡ true) where
-    pub refused-room : roomFor t m old ≡ false → Postcondition b old (Written.Refused Refusal.BufferTooShort) old
-    refused-room e = rw (guards, narrow-code, e) (refl, refl)
+  code-keys-are : keysOf (form tree) ≡ codeKeys b
+  code-keys-are = ap keysOf (sym (tokens-are (marksOf b ++ []) [] refl)) ∙ code-keys b (marksOf b ++ [])
 
-    module _ (roomy : roomFor t m old ≡ true) (marks rest : List Bool) (marked : marks ≡ marksOf b ++ rest) where
-      pub room : Room (emitted b marks) old
-      room =
-          let x = leb t (length (old .kinds)) in
-          let y = leb t (length (old .numbers)) in
-          let z = leb t (length (old .places)) in
-          let p = and-true (x && y && z) (leb (32 * m) (length (old .keys))) roomy in
-          let q = and-true (x && y) z (p .0) in
-          let r = and-true x y (q .0) in
-          rw (tokens-are marks rest marked) (record {
-            kinds = omega (arith, known .tokens, leb-true t (length (old .kinds)) (r .0));
-            numbers = omega (arith, known .tokens, leb-true t (length (old .numbers)) (r .1));
-            places = omega (arith, known .tokens, leb-true t (length (old .places)) (q .1));
-            keys = omega (arith, keys-are, leb-true (32 * m) (length (old .keys)) (p .1));
-          })
+  pub keys-bound : length (codeKeys b) ≤ m
+  keys-bound = omega (arith, ap length code-keys-are, form-keys tree, known .terminals)
 
-      pub key-bytes : length (keysOf (emitted b marks)) < 2 ^ 32
-      key-bytes = rw (tokens-are marks rest marked) (omega (arith, keys-are, few-oracles b t m passes))
+  -- the keys that were found are the form's
+  module _ (narrow-code : narrowCode b ≡ true) (positions : List ℕ) (n : ℕ) (found : KeysFound b positions n) where
+    keys-are : keysOf (form tree) ≡ keysAt b positions n
+    keys-are = code-keys-are ∙ sym (found .keys)
 
-      pub wrote : (new : Records) → Stored (emitted b marks) 0 old new → Postcondition b old (Written.Records t (32 * m)) new
-      wrote new s =
-          let ts = form tree in
-          let w = rw (tokens-are marks rest marked) at s in
-          let fit = rw (tokens-are marks rest marked) at room in
-          let sound = form-sound tree (known .told .encodable) (narrow-is ∙ narrow-code) in
-          rw (guards, narrow-code, roomy) (
-            rw (known .tokens, known .terminals),
-            record {
-              kinds = w .kinds;
-              numbers = w .numbers;
-              places = ap (drop (length ts)) (w .places) ∙ rest-of (placesFrom 0 ts) (old .places) (length ts) (length-places 0 ts);
-              keys = ap (drop (32 * oracles tree)) (w .keys) ∙ rest-of (keysOf ts) (old .keys) (32 * oracles tree) (form-keys tree (known .told .encodable));
-              placesCount = ap length (w .places) ∙ length-over (placesFrom 0 ts) (old .places) (omega (arith, length-places 0 ts, fit .places));
-              keysCount = ap length (w .keys) ∙ length-over (keysOf ts) (old .keys) (fit .keys);
-              placed = in-order ts (oracles tree) old new sound (form-keys tree (known .told .encodable)) (w .places) (w .keys);
-            },
-          )
+    count-is : length (keysOf (form tree)) ≡ n
+    count-is = ap length keys-are ∙ keys-count b positions n (found .noted)
+
+    pub few-keys : n < 2 ^ 16
+    few-keys = omega (arith, count-is, keys-few [] (form tree), known .told .few)
+
+    pub refused-room : roomFor t n old ≡ false → Outcome b old (Written.Refused Refusal.BufferTooShort) old
+    unfolding wrote
+    refused-room e = let g : writing b old ≡ Writing.refused Refusal.BufferTooShort = guards ∙ rw (narrow-code, count-is, e) in rw g
+
+    module _ (roomy : roomFor t n old ≡ true) where
+      pub key-room : 32 * n ≤ length (old .keys)
+      key-room = has-room t n old roomy .3
+
+      module _ (marks rest : List Bool) (marked : marks ≡ marksOf b ++ rest) where
+        pub room : Room (emitted b marks) (columnsOf (old .kinds) (old .numbers) (old .places))
+        room =
+            let enough = has-room t n old roomy in
+            rw (tokens-are marks rest marked) (record {
+              kinds = omega (arith, known .tokens, enough .0);
+              numbers = omega (arith, known .tokens, enough .1);
+              places = omega (arith, known .tokens, enough .2);
+            })
+
+        pub wrote-all : (kinds numbers places keys : List ℕ)
+            → Stored (emitted b marks) (keysAt b positions n) (columnsOf (old .kinds) (old .numbers) (old .places)) (columnsOf kinds numbers places)
+            → keys ≡ over (joined (keysAt b positions n)) (old .keys)
+            → Outcome b old (Written.Records t (32 * n)) (recordsOf kinds numbers places keys)
+        unfolding wrote
+        wrote-all kinds numbers places keys s e =
+            let ts = form tree in
+            let w = rw (tokens-are marks rest marked) at s in
+            let a : Written.Records t (32 * n) ≡ Written.Records (length ts) (32 * length (keysOf ts)) = rw (known .tokens, count-is) in
+            let k : kinds ≡ over (map (λ (u : Token). u .kind) ts) (old .kinds) = w .kinds in
+            let l : numbers ≡ over (map (λ (u : Token). u .number) ts) (old .numbers) = w .numbers in
+            let p : places ≡ over (map (placeIn (keysOf ts)) ts) (old .places) = rw keys-are (w .places) in
+            let q : keys ≡ over (joined (keysOf ts)) (old .keys) = rw keys-are e in
+            let g : writing b old ≡ Writing.writes ts = guards ∙ rw (narrow-code, count-is, roomy) in
+            rw g (λ i. record { answer = a i; records = record { kinds = k i; numbers = l i; places = p i; keys = q i } })

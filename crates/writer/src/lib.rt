@@ -1,4 +1,5 @@
-// Write: condition code to token records. One pass over the commands marks those after which a ScriptNumToLe64 stands, a second one writes the records.
+// Write: condition code to token records. One pass over the commands marks those after which a ScriptNumToLe64 stands, a second one finds the keys, where there
+// are oracle terminals, and a third one writes the records.
 use semantics::Checked;
 use semantics::MAX_TOKENS;
 use semantics::Refusal;
@@ -10,9 +11,8 @@ ghost use lib.Dec.{leb};
 ghost use lib.ListN.{length};
 ghost use Rattle.semantics.specs.declared.Checked.{Checked};
 ghost use Rattle.semantics.specs.Check.{checked};
-ghost use Rattle.semantics.specs.Write.{Writes, writing, written};
 ghost use Rattle.semantics.specs.Records.{recordsOf};
-ghost use Rattle.writer.specs.Postcondition.{Postcondition};
+ghost use Rattle.semantics.specs.Write.{wrote};
 
 // Conditions of so few tokens are written with smaller arrays, which take less time to make.
 const FEW_TOKENS: usize = 32;
@@ -42,7 +42,8 @@ fn has_room(
     key_bytes <= keys
 }
 
-// Refusals 6 and 7, then the records, of a condition that Check let pass; the arrays have room for as many index operands and marks as it has tokens.
+// Refusals 6 and 7, then the records and keys, of a condition that Check let pass; the arrays have room for as many as it has tokens. `noted` has the index operands
+// that wait, and then, when they are done with, where the keys stand in the code.
 fn write_with(
     code: &[u8],
     tokens: usize,
@@ -51,16 +52,17 @@ fn write_with(
     numbers: &mut [u64],
     places: &mut [u32],
     keys: &mut [u8],
-    waiting: &mut [u16],
+    noted: &mut [u16],
     marks: &mut [bool],
 ) -> Written
-    requires { ⌜ (checked (now code) ≡ Checked.Passed tokens oracles) × (tokens ≤ length (now waiting)) × (tokens ≤ length (now marks)) ⌝ }
-    ensures { λ r. ⌜ Postcondition (now (code .entry)) (recordsOf (now (kinds .entry)) (now (numbers .entry)) (now (places .entry)) (now (keys .entry))) r (recordsOf (now (kinds .exit)) (now (numbers .exit)) (now (places .exit)) (now (keys .exit))) ⌝ }
+    requires { ⌜ (checked (now code) ≡ Checked.Passed tokens oracles) × (tokens ≤ length (now noted)) × (tokens ≤ length (now marks)) ⌝ }
+    ensures { λ r. ⌜ record { answer = r; records = recordsOf (now (kinds .exit)) (now (numbers .exit)) (now (places .exit)) (now (keys .exit)) } ≡ wrote (now (code .entry)) (recordsOf (now (kinds .entry)) (now (numbers .entry)) (now (places .entry)) (now (keys .entry))) ⌝ }
 {
-    if !conversions::mark(code, waiting, marks) {
+    if !conversions::mark(code, noted, marks) {
         return Written::Refused(Refusal::IndexConstTooLarge);
     }
-    let key_bytes = 32 * oracles;
+    let count = keys::find_keys(code, oracles, noted);
+    let key_bytes = 32 * count;
     if !has_room(
         tokens,
         key_bytes,
@@ -71,14 +73,15 @@ fn write_with(
     ) {
         return Written::Refused(Refusal::BufferTooShort);
     }
-    token_form::write_records(code, marks, kinds, numbers, places, keys);
+    token_form::write_records(code, marks, noted, count, kinds, numbers, places);
+    keys::write_keys(code, noted, count, keys);
     Written::Records {
         records: tokens,
         key_bytes,
     }
 }
 
-// A condition that Check let pass, with arrays for its marks and for the index operands that wait.
+// A condition that Check let pass, with arrays for its marks and for what is noted of its commands.
 fn write_passed(
     code: &[u8],
     tokens: usize,
@@ -89,10 +92,10 @@ fn write_passed(
     keys: &mut [u8],
 ) -> Written
     requires { ⌜ checked (now code) ≡ Checked.Passed tokens oracles ⌝ }
-    ensures { λ r. ⌜ Postcondition (now (code .entry)) (recordsOf (now (kinds .entry)) (now (numbers .entry)) (now (places .entry)) (now (keys .entry))) r (recordsOf (now (kinds .exit)) (now (numbers .exit)) (now (places .exit)) (now (keys .exit))) ⌝ }
+    ensures { λ r. ⌜ record { answer = r; records = recordsOf (now (kinds .exit)) (now (numbers .exit)) (now (places .exit)) (now (keys .exit)) } ≡ wrote (now (code .entry)) (recordsOf (now (kinds .entry)) (now (numbers .entry)) (now (places .entry)) (now (keys .entry))) ⌝ }
 {
     if tokens <= FEW_TOKENS {
-        let mut waiting = [0; FEW_TOKENS];
+        let mut noted = [0; FEW_TOKENS];
         let mut marks = [false; FEW_TOKENS];
         return write_with(
             code,
@@ -102,12 +105,12 @@ fn write_passed(
             numbers,
             places,
             keys,
-            &mut waiting,
+            &mut noted,
             &mut marks,
         );
     }
     if tokens <= SOME_TOKENS {
-        let mut waiting = [0; SOME_TOKENS];
+        let mut noted = [0; SOME_TOKENS];
         let mut marks = [false; SOME_TOKENS];
         return write_with(
             code,
@@ -117,11 +120,11 @@ fn write_passed(
             numbers,
             places,
             keys,
-            &mut waiting,
+            &mut noted,
             &mut marks,
         );
     }
-    let mut waiting = [0; MAX_TOKENS];
+    let mut noted = [0; MAX_TOKENS];
     let mut marks = [false; MAX_TOKENS];
     write_with(
         code,
@@ -131,12 +134,13 @@ fn write_passed(
         numbers,
         places,
         keys,
-        &mut waiting,
+        &mut noted,
         &mut marks,
     )
 }
 
-// Writes the token form of a condition, each key after the last at the front of the keys; or gives the first of the refusals 1 to 5, 6, 7, and writes nothing.
+// Writes the token form of a condition, with its keys at the front of the keys, each once, in the order of the first token that names it; or gives the first of
+// the refusals 1 to 5, 6, 7, and writes nothing.
 pub fn write(
     code: &[u8],
     kinds: &mut [u8],
@@ -144,8 +148,7 @@ pub fn write(
     places: &mut [u32],
     keys: &mut [u8],
 ) -> Written
-    ensures { λ r. ⌜ r ≡ written (writing (now (code .entry)) (recordsOf (now (kinds .entry)) (now (numbers .entry)) (now (places .entry)) (now (keys .entry)))) ⌝ }
-    ensures { λ _. ⌜ Writes (writing (now (code .entry)) (recordsOf (now (kinds .entry)) (now (numbers .entry)) (now (places .entry)) (now (keys .entry)))) (recordsOf (now (kinds .entry)) (now (numbers .entry)) (now (places .entry)) (now (keys .entry))) (recordsOf (now (kinds .exit)) (now (numbers .exit)) (now (places .exit)) (now (keys .exit))) ⌝ }
+    ensures { λ r. ⌜ record { answer = r; records = recordsOf (now (kinds .exit)) (now (numbers .exit)) (now (places .exit)) (now (keys .exit)) } ≡ wrote (now (code .entry)) (recordsOf (now (kinds .entry)) (now (numbers .entry)) (now (places .entry)) (now (keys .entry))) ⌝ }
 {
     match condition::check(code) {
         Checked::Refused(r) => Written::Refused(r),

@@ -5,6 +5,7 @@ use mathlib.Core.Path.{_∙_, ap, sym}
 use native.Mathlib.Omega.{arith}
 use lib.Seq.{length-take-le}
 use Rattle.slices.proofs.Bytes.{all-of}
+use Rattle.semantics.specs.Write.{Wrote}
 use Rattle.answers.specs.Answers.{writeAnswer}
 use Rattle.fields.proofs.Loaded.{fields-written, writable-few}
 use Rattle.fields.proofs.write_fields.Statement.{statement}
@@ -35,4 +36,4 @@ write-fields-spec =
     (a .kinds .now) (a .numbers .now) (a .places .now) (a .keys .now)
     (record { kinds = l .0; numbers = l .1 .0; places = l .1 .1 .0; keys = l .1 .1 .1 .0 }) (c .write-answer .result)
     (omega arith) (omega arith) (omega arith)
-    (c .write-answer .ensures ∙ ap writeAnswer (c .before .before .before .before .before .before .before .before .before .write .ensures .0)) (c .before .before .before .before .before .before .before .before .before .write .ensures .1)))
+    (c .write-answer .ensures ∙ ap (λ (x : Wrote). writeAnswer (x .answer)) (c .before .before .before .before .before .before .before .before .before .write .ensures)) (ap (λ (x : Wrote). x .records) (c .before .before .before .before .before .before .before .before .before .write .ensures))))

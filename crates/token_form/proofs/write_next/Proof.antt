@@ -1,17 +1,16 @@
 -- A command of one token is written at once (Singles.antt); any other as `write_command` writes it.
 use borrow.Author.Needs.{needs}
 use borrow.Author.Tests.{not-true}
-use Prim.Native.Nat.{ℕ, _+_, _≤_}
-use mathlib.Core.Bool.{Bool, false}
-use mathlib.Core.Path.{_≡_, refl, sym, ap, _∙_}
+use Prim.Native.Nat.{ℕ}
+use mathlib.Core.Bool.{false}
+use mathlib.Core.Path.{_≡_, sym, ap, _∙_}
 use mathlib.Core.List.{List, [], _∷_}
 use native.Mathlib.Omega.{arith}
 use lib.Dec.{eqb}
-use lib.ListN.{length}
 use Rattle.slices.specs.Bytes.{bytesValue}
 use Rattle.semantics.specs.declared.Command.{Command}
 use Rattle.semantics.specs.Code.{commandOf, commandRow}
-use Rattle.semantics.specs.Operations.{Token, op}
+use Rattle.semantics.specs.Operations.{op}
 use Rattle.semantics.specs.Parse.{operandBytes}
 use Rattle.token_table.specs.TokenRows.{ownTokens}
 use Rattle.token_form.proofs.Singles.{one-asks, one-counts, one-leaves, token}
@@ -63,15 +62,15 @@ write-one-requires c κs =
 
 returns : tie.Need-returns
 returns c =
-    let w = c .before .before .before .before .before .before .before in
+    let w = c .before .before .before .before .before .before in
     let u = w .before .before .before .before in
     let s = begin (u .before) in
     let m = unmarked (u .before) in
     let p = plain u in
-    let n = one-counts (command s) (operands s) (s .args .marked) m _ 0 (p .2 (operands s)) in
-    let e = w .write-one .ensures in
-    let stored = one-leaves (command s) (operands s) (s .args .marked) m _ 0 (p .2 (operands s)) (s .args .place) _ _ (p .1) (e .0) (e .1 .0) (e .1 .1) refl in
-    rw (c .one-record .ensures) ((n .0, n .1, sym (p .0)), stored)
+    let e = w .write-one .ensures in (
+      (one-counts (command s) (operands s) (s .args .marked) m _ 0 (p .2 (operands s)), sym (p .0)),
+      one-leaves (command s) (operands s) (s .args .marked) m _ 0 (p .2 (operands s)) _ _ _ (p .1) (e .0) (e .1 .0) (e .1 .1),
+    )
 
 read-le64-requires : tie.Need-read-le64-requires
 read-le64-requires c κs = rw (numbered c .0) at (begin (c .before .before) .pre .0 .1)
@@ -84,29 +83,29 @@ write-one-requires-2 c κs =
 
 returns-2 : tie.Need-returns-2
 returns-2 c =
-    let w = c .before .before .before .before .before .before .before in
+    let w = c .before .before .before .before .before .before in
     let r = w .before .before .before .before in
     let s = begin (r .before .before .before) in
     let m = unmarked (r .before .before .before) in
     let q = numbered (r .before) in
-    let n = one-counts (command s) (operands s) (s .args .marked) m _ _ (number-read r) in
-    let e = w .write-one2 .ensures in
-    let stored = one-leaves (command s) (operands s) (s .args .marked) m _ _ (number-read r) (s .args .place) _ _ (q .1) (e .0) (e .1 .0) (e .1 .1) refl in
-    rw (c .one-record2 .ensures) ((n .0, n .1, sym (q .0)), stored)
+    let e = w .write-one2 .ensures in (
+      (one-counts (command s) (operands s) (s .args .marked) m _ _ (number-read r), sym (q .0)),
+      one-leaves (command s) (operands s) (s .args .marked) m _ _ (number-read r) _ _ _ (q .1) (e .0) (e .1 .0) (e .1 .1),
+    )
 
 write-command-requires : tie.Need-write-command-requires
 write-command-requires c κs =
-    let a = c .before .before .before .before in
+    let a = c .before .before .before in
     let s = a .before .before .before .before .before .before .before in
     rw (a .command-of .ensures) (s .pre)
 
 returns-3 : tie.Need-returns-3
 returns-3 c =
-    let w = c .before .before .before .before .before .before .before .before .before in
-    let a = w .before .before .before .before .before in
+    let w = c .before .before .before .before .before .before .before in
+    let a = w .before .before .before .before in
     let e = rw (a .command-of .ensures) at (w .write-command .ensures) in
     let f = rw (a .command-of .ensures) at (c .width-of .ensures) in
-    ((e .0 .0, e .0 .1, f), e .1)
+    ((e .0, f), e .1)
 
 pub write-next-spec : {M : Type 1} → statement M
 write-next-spec =
@@ -114,14 +113,12 @@ write-next-spec =
     (tie.spec
     (λ c κs. search needs)
     write-one-requires
-    (λ c κs. search needs)
     (λ c. search needs)
     (λ c. search needs)
     (λ c. search needs)
     returns
     read-le64-requires
     write-one-requires-2
-    (λ c κs. search needs)
     (λ c. search needs)
     (λ c. search needs)
     (λ c. search needs)
@@ -129,7 +126,6 @@ write-next-spec =
     (λ c κs. search needs)
     write-command-requires
     (λ c κs. search needs)
-    (λ c. search needs)
     (λ c. search needs)
     (λ c. search needs)
     (λ c. search needs)

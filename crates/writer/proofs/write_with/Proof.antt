@@ -1,27 +1,23 @@
--- Each refusal is a test's (`refused-narrow`, `refused-room`); what was written is the tree's form (`wrote`).
+-- Each refusal is a test's (`refused-narrow`, `refused-room`); what was written is the tree's form with its keys (`wrote-all`).
 use borrow.Author.Needs.{needs}
-use Prim.Native.Nat.{ℕ, _*_, _<_, _^_}
-use mathlib.Core.Bool.{Bool, true, false}
+use Prim.Native.Nat.{ℕ, _<_, _^_}
+use mathlib.Core.Bool.{true, false}
 use mathlib.Core.Path.{_≡_, sym, _∙_}
-use mathlib.Core.List.{List, _++_}
+use mathlib.Core.List.{List}
 use native.Mathlib.Omega.{arith}
 use borrow.Author.Tests.{not-false, not-true}
-use lib.ListN.{length}
 use Rattle.slices.specs.Bytes.{Bytes}
 use Rattle.slices.proofs.Bytes.{all-of}
-use Rattle.semantics.specs.declared.Refusal.{Refusal}
-use Rattle.semantics.specs.declared.Written.{Written}
+use Rattle.semantics.specs.declared.Checked.{Checked}
+use Rattle.semantics.specs.Check.{checked}
 use Rattle.semantics.specs.Records.{Records, recordsOf}
-use Rattle.semantics.specs.Write.{keysOf, roomFor}
-use Rattle.conversions.specs.Marks.{marksOf, narrowCode}
-use Rattle.token_form.specs.Storing.{Room, Stored, emitted}
-use Rattle.writer.specs.Postcondition.{Postcondition}
-use Rattle.condition.proofs.Onward.{few-oracles}
-use Rattle.writer.proofs.Answers.{coded, fits, key-bytes, refused-narrow, refused-room, room, wrote}
+use Rattle.semantics.specs.Write.{roomFor}
+use Rattle.conversions.specs.Marks.{narrowCode}
+use Rattle.writer.proofs.Answers.{coded, few-keys, fits, key-room, keys-bound, refused-narrow, refused-room, room, short, wrote-all}
 use Rattle.writer.proofs.write_with.Statement.{statement}
 use Rattle.writer.proofs.write_with.Tie as tie
 
--- the arguments, and what each test comes to
+-- the arguments
 module _ (k : tie.After-shared-slice-known) where
   abbrev code : List ℕ
   code = k .before .args .code .now
@@ -38,57 +34,96 @@ module _ (k : tie.After-shared-slice-known) where
   bytes : Bytes code
   bytes = all-of (λ x. x < 256) code 0 (λ i. k .shared-slice-known .given i .fits)
 
-  six : narrowCode code ≡ false → Postcondition code old (Written.Refused Refusal.IndexConstTooLarge) old
-  six = refused-narrow code bytes old tokens oracles (k .before .pre .0)
+  passes : checked code ≡ Checked.Passed tokens oracles
+  passes = k .before .pre .0
 
-  module _ (narrow : narrowCode code ≡ true) where
-    seven : roomFor tokens oracles old ≡ false → Postcondition code old (Written.Refused Refusal.BufferTooShort) old
-    seven = refused-room code bytes old tokens oracles (k .before .pre .0) narrow
+-- once the keys are found: 6 has not fallen
+module _ (f : tie.After-find-keys) where
+  abbrev k : tie.After-shared-slice-known
+  k = f .before .before .before .before .before .before .before .before .before .before .before .before .before .before .before .before
 
-    module _ (roomy : roomFor tokens oracles old ≡ true) (marks rest : List Bool) (marked : marks ≡ marksOf code ++ rest) where
-      fitting : (length (keysOf (emitted code marks)) < 2 ^ 32) × Room (emitted code marks) old
-      fitting = (
-        key-bytes code bytes old tokens oracles (k .before .pre .0) narrow roomy marks rest marked,
-        room code bytes old tokens oracles (k .before .pre .0) narrow roomy marks rest marked,
-      )
+  narrow-told : narrowCode (code k) ≡ true
+  narrow-told = sym (f .before .before .before .before .before .before .before .mark .ensures .narrow-is) ∙ not-false _ (f .before .before .if1 .left)
 
-      none-refused : (new : Records) → Stored (emitted code marks) 0 old new → Postcondition code old (Written.Records tokens (32 * oracles)) new
-      none-refused = wrote code bytes old tokens oracles (k .before .pre .0) narrow roomy marks rest marked
+  few : f .find-keys .result < 2 ^ 16
+  few = few-keys (code k) (bytes k) (old k) (tokens k) (oracles k) (passes k) narrow-told _ _ (f .find-keys .ensures)
 
--- 6 does not fall
-abbrev begun : tie.After-has-room → tie.After-shared-slice-known
-begun h = h .before .before .before .before .before .before .before .before .before .before .before .before .before .before .before
+-- and where 7 has not fallen either
+module _ (u : tie.Else2) where
+  abbrev found : tie.After-find-keys
+  found = u .before .before .before .before
 
-narrow-told : (h : tie.After-has-room) → narrowCode (code (begun h)) ≡ true
-narrow-told h = sym (h .before .before .before .before .before .before .mark .ensures .narrow-is) ∙ not-false _ (h .before .if1 .left)
+  roomy : roomFor (tokens (k found)) (found .find-keys .result) (old (k found)) ≡ true
+  roomy = sym (u .before .has-room .ensures) ∙ not-false _ (u .if2 .left)
+
+returns : tie.Need-returns
+returns c =
+    let k = c .before .before .before .before .before .before .before .before .before .before .before .before .before .before in
+    let wide = sym (c .before .before .before .before .before .mark .ensures .narrow-is) ∙ not-true _ (c .if1 .taken) in
+    refused-narrow (code k) (bytes k) (old k) (tokens k) (oracles k) (passes k) wide
+
+find-keys-requires : tie.Need-find-keys-requires
+find-keys-requires c κs =
+    let k = c .before .before .before .before .before .before .before .before .before .before .before .before .before .before .before in (
+      coded (code k) (tokens k) (oracles k) _ (passes k) (omega (arith, k .before .pre .1)),
+      short (code k) (tokens k) (oracles k) (passes k),
+      keys-bound (code k) (bytes k) (old k) (tokens k) (oracles k) (passes k),
+    )
+
+returns-2 : tie.Need-returns-2
+returns-2 c =
+    let f = c .before .before .before .before in
+    let k = k f in
+    let lacking : roomFor (tokens k) (f .find-keys .result) (old k) ≡ false = sym (c .before .has-room .ensures) ∙ not-true _ (c .if2 .taken) in
+    refused-room (code k) (bytes k) (old k) (tokens k) (oracles k) (passes k) (narrow-told f) _ _ (f .find-keys .ensures) lacking
+
+write-records-requires : tie.Need-write-records-requires
+write-records-requires c κs =
+    let u = c .before .before .before .before .before in
+    let f = found u in
+    let k = k f in
+    let marked = f .before .before .before .before .before .before .before .mark .ensures .marked (not-false _ (f .before .before .if1 .left)) in (
+      (coded (code k) (tokens k) (oracles k) _ (passes k) (omega (arith, k .before .pre .2)), few f, f .find-keys .ensures .noted),
+      room (code k) (bytes k) (old k) (tokens k) (oracles k) (passes k) (narrow-told f) _ _ (f .find-keys .ensures) (roomy u) _ _ marked,
+    )
+
+write-keys-requires : tie.Need-write-keys-requires
+write-keys-requires c κs =
+    let u = c .before .before .before .before .before .before .before .before .before .before .before .before .before .before in
+    let f = found u in
+    let k = k f in
+    (f .find-keys .ensures .noted, key-room (code k) (bytes k) (old k) (tokens k) (oracles k) (passes k) (narrow-told f) _ _ (f .find-keys .ensures) (roomy u))
+
+returns-3 : tie.Need-returns-3
+returns-3 c =
+    let u = c .before .before .before .before .before .before .before .before .before .before .before .before .before .before .before .before .before in
+    let f = found u in
+    let k = k f in
+    let marked = f .before .before .before .before .before .before .before .mark .ensures .marked (not-false _ (f .before .before .if1 .left)) in
+    let records = c .before .before .before .before .before .before .before .before .before .before .before .write-records .ensures in
+    wrote-all (code k) (bytes k) (old k) (tokens k) (oracles k) (passes k) (narrow-told f) _ _ (f .find-keys .ensures) (roomy u) _ _ marked _ _ _ _
+    records (c .before .before .write-keys .ensures)
 
 pub write-with-spec : {M : Type 1} → statement M
 write-with-spec =
     tie.close
     (tie.spec
-    (λ c κs. let k = c .before .before .before .before .before .before .before .before in fits (code k) (tokens k) (oracles k) _ _ (k .before .pre .0) (k .before .pre .1) (k .before .pre .2))
+    (λ c κs. let k = c .before .before .before .before .before .before .before .before in fits (code k) (tokens k) (oracles k) _ _ (passes k) (k .before .pre .1) (k .before .pre .2))
     (λ c. search needs)
     (λ c. search needs)
-    (λ c. six (c .before .before .before .before .before .before .before .before .before .before .before .before .before .before) (sym (c .before .before .before .before .before .mark .ensures .narrow-is) ∙ not-true _ (c .if1 .taken)))
-    (λ c. let k = c .before .before .before .before .before .before .before .before .before .before .before .before .before .before in omega (arith, few-oracles (code k) (tokens k) (oracles k) (k .before .pre .0)))
+    returns
+    find-keys-requires
+    (λ c. omega (arith, few (c .before .before)))
     (λ c κs. search needs)
     (λ c. search needs)
     (λ c. search needs)
-    (λ c. let h = c .before in seven (begun h) (narrow-told h) (sym (h .has-room .ensures) ∙ not-true _ (c .if2 .taken)))
-    (λ c κs.
-    let h = c .before .before .before .before .before .before in
-    let k = begun h in
-    let marked = h .before .before .before .before .before .before .mark .ensures .marked (not-false _ (h .before .if1 .left)) in
-    let q = fitting k (narrow-told h) (sym (h .has-room .ensures) ∙ not-false _ (c .before .before .before .before .before .if2 .left)) _ _ marked in
-    ((coded (code k) (tokens k) (oracles k) _ (k .before .pre .0) (omega (arith, k .before .pre .2)), q .0), q .1))
+    returns-2
+    write-records-requires
+    write-keys-requires
     (λ c. search needs)
     (λ c. search needs)
     (λ c. search needs)
     (λ c. search needs)
     (λ c. search needs)
     (λ c. search needs)
-    (λ c.
-    let h = c .before .before .before .before .before .before .before .before .before .before .before .before .before .before .before in
-    let marked = h .before .before .before .before .before .before .mark .ensures .marked (not-false _ (h .before .if1 .left)) in
-    none-refused (begun h) (narrow-told h) (sym (h .has-room .ensures) ∙ not-false _ (c .before .before .before .before .before .before .before .before .before .before .before .before .before .before .if2 .left)) _ _ marked _
-    (c .before .before .before .before .before .before .before .before .write-records .ensures)))
+    returns-3)

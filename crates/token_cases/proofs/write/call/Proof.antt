@@ -1,9 +1,9 @@
--- The call is lent the front of each buffer, and the rest is kept (`leaves`).
+-- The call is lent the front of each buffer, and the rest is kept (`left`).
 use borrow.Author.Needs.{needs}
 use mathlib.Core.Path.{sym}
 use native.Mathlib.Omega.{arith}
 use lib.Seq.{length-take-le}
-use Rattle.token_cases.proofs.Fronts.{leaves}
+use Rattle.token_cases.proofs.Writing.{answered, left}
 use Rattle.token_cases.proofs.write.call.Statement.{statement}
 use Rattle.token_cases.proofs.write.call.Tie as tie
 
@@ -17,13 +17,15 @@ returns c =
     let h = g .before .before in
     let known = h .before .before in
     let a = known .before .before .before .before .before .before .args in
-    let k = w .covenant-write .kept .1 in
-    leaves (a .body .now) (code .part2 .result .now) (known .part .result .now) (a .kinds .now) (a .numbers .now) (a .places .now) (a .keys .now) _ _ _ _
-    (code .part2 .ensures) (known .part .ensures)
-    (rw (h .before .word .ensures) at (h .at-most .ensures)) (rw (g .before .word2 .ensures) at (g .at-most2 .ensures))
-    (rw (f .before .word3 .ensures) at (f .at-most3 .ensures)) (rw (d .before .word4 .ensures) at (d .at-most4 .ensures))
-    _ _ _ _ _ (k .0) (k .1 .0) (k .1 .1 .0) (k .1 .1 .1 .0)
-    (w .covenant-write .ensures .0) (w .covenant-write .ensures .1)
+    let p = rw (h .before .word .ensures) at (h .at-most .ensures) in
+    let q = rw (g .before .word2 .ensures) at (g .at-most2 .ensures) in
+    let r = rw (f .before .word3 .ensures) at (f .at-most3 .ensures) in
+    let s = rw (d .before .word4 .ensures) at (d .at-most4 .ensures) in (
+      answered (a .body .now) (code .part2 .result .now) (known .part .result .now) (a .kinds .now) (a .numbers .now) (a .places .now) (a .keys .now) _ _ _ _
+          (code .part2 .ensures) (known .part .ensures) p q r s _ (w .covenant-write .ensures .0),
+      left (a .body .now) (code .part2 .result .now) (known .part .result .now) (a .kinds .now) (a .numbers .now) (a .places .now) (a .keys .now) _ _ _ _
+          (code .part2 .ensures) (known .part .ensures) p q r s _ _ _ _ (w .covenant-write .ensures .1),
+    )
 
 pub call-spec : {M : Type 1} → statement M
 call-spec =
