@@ -2,3 +2,4 @@
 pub mod Onto
 pub mod Stored
 mod Walk
+pub mod Alike

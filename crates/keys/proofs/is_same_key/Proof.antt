@@ -26,7 +26,7 @@ returns c =
     let s = begin (t .before) in
     let l = t .before .loop in
     sym
-    (alike-not (s .args .code .now) (s .args .a) (s .args .b) (l .i) (t .loop-test .taken) (s .pre .0) (s .pre .1) _ _
+    (alike-not (s .args .code .now) (s .args .a) (s .args .b) (l .i) (omega (arith, t .loop-test .taken)) (s .pre .0) (s .pre .1) _ _
     (c .before .before .read-le64 .ensures) (c .before .read-le642 .ensures) (c .if1 .taken))
     ∙ l .inv .1
 
@@ -37,7 +37,7 @@ loop-again c =
     let l = t .before .loop in (
       omega (arith, t .loop-test .taken),
       sym
-          (alike-so-far (s .args .code .now) (s .args .a) (s .args .b) (l .i) (t .loop-test .taken) (s .pre .0) (s .pre .1) _ _
+          (alike-so-far (s .args .code .now) (s .args .a) (s .args .b) (l .i) (omega (arith, t .loop-test .taken)) (s .pre .0) (s .pre .1) _ _
           (c .before .before .read-le64 .ensures) (c .before .read-le642 .ensures) (c .if1 .left))
           ∙ l .inv .1,
     )
@@ -45,7 +45,7 @@ loop-again c =
 returns-2 : tie.Need-returns-2 Inv-loop μ-loop
 returns-2 c =
     let s = begin (c .before) in
-    sym (alike-last (s .args .code .now) (s .args .a) (s .args .b) (c .before .loop .i) (c .loop-test .left)) ∙ c .before .loop .inv .1
+    sym (alike-last (s .args .code .now) (s .args .a) (s .args .b) (c .before .loop .i) (omega (arith, c .loop-test .left))) ∙ c .before .loop .inv .1
 
 pub is-same-key-spec : {M : Type 1} → statement M
 is-same-key-spec =

@@ -18,14 +18,14 @@ returns-2 c =
     let i = c .before .before .before in
     let s = i .before .before .before in
     noted-again (s .args .code .now) (s .args .positions .now) (s .args .count) (s .pre .3) (s .args .width) (s .args .at) (i .if1 .left)
-    (rw (c .before .find-key .ensures) at (c .if2 .taken))
+    (omega (arith, c .before .find-key .ensures, c .if2 .taken))
 
 returns-3 : tie.Need-returns-3
 returns-3 c =
     let i = c .before .before .before in
     let s = i .before .before .before in
     noted-new (s .args .code .now) (s .args .positions .now) (s .args .count) (s .pre .3) (s .args .width) (s .args .at) (i .if1 .left)
-    (rw (c .before .find-key .ensures) at (c .if2 .left)) (omega (arith, s .pre .0, i .if1 .left)) (s .pre .2)
+    (omega (arith, c .before .find-key .ensures, c .if2 .left)) (omega (arith, s .pre .0, i .if1 .left)) (s .pre .2)
 
 pub note-key-spec : {M : Type 1} → statement M
 note-key-spec =
