@@ -24,7 +24,7 @@ indexOf key (k ∷ ks) = cond (sameBytes k key) 0 (suc (indexOf key ks))
 unfoldable pub withKey : List (List ℕ) → List ℕ → List (List ℕ)
 withKey ks key = cond (ltb (indexOf key ks) (length ks)) ks (ks ++ key ∷ [])
 
--- the key that a token names more: a Bytes32 names one
+-- and the key that a token names, if it does: a Bytes32 names one
 abbrev pub withToken : List (List ℕ) → Token → List (List ℕ)
 withToken ks t = cond (eqb (t .kind) 3) (withKey ks (t .key)) ks
 
