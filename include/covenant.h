@@ -37,7 +37,7 @@ typedef struct { uint32_t number; uint64_t place; uint64_t code_bytes, start; } 
 typedef struct { uint8_t kind; uint64_t number; uint32_t place; } covenant_record;
 
 /* Sizes that are always enough for one condition: COVENANT_MAX_CODE bytes of code, COVENANT_MAX_TOKENS records, and COVENANT_MAX_ORACLES oracle terminals, each with
- * 32 key bytes and a check of 112 bytes. Where the oracle rule is kept, at most one terminal is a PriceOracle1, of 10 tokens; each further one takes 13, and one for the
+ * at most 32 key bytes and a check of 112 bytes. Where the oracle rule is kept, at most one terminal is a PriceOracle1, of 10 tokens; each further one takes 13, and one for the
  * operation that joins it. */
 #define COVENANT_MAX_CODE 9216
 #define COVENANT_MAX_TOKENS 1024
@@ -72,8 +72,10 @@ covenant_evaluated covenant_evaluate(
     uint64_t current, const uint8_t *witness, size_t witness_count, const uint32_t *ends, size_t ends_count,
     uint8_t *checks, size_t checks_count);
 
-/* Writes the token form of a condition, at the front of the slices: kinds, numbers and places of `records` tokens, and each key at the place that its record names in
- * the first `key_bytes` bytes of the keys. Refusals 1 to 5, 6, 7. A refusal writes nothing, and nothing is written beyond what is reported. */
+/* Writes the token form of a condition, at the front of the slices: kinds, numbers and places of `records` tokens, and in the first `key_bytes` bytes of the keys each
+ * key once, in the order of the first token that names it, one after the other. The place of a token's record is where its key begins; so conditions with one token form
+ * are written alike, byte for byte. Refusals 1 to 5, 6, 7: fewer records than tokens, or under 32 key bytes for each different key. A refusal writes nothing, and nothing
+ * is written beyond what is reported. */
 covenant_written covenant_write(
     const uint8_t *code, size_t code_count, uint8_t *kinds, size_t kinds_count, uint64_t *numbers, size_t numbers_count,
     uint32_t *places, size_t places_count, uint8_t *keys, size_t keys_count);

@@ -10,7 +10,7 @@ use native.Mathlib.Omega.{arith}
 use borrow.Author.Tests.{eq-eqb, eqb-true, le-leb, lt-leb, ne-eqb}
 use lib.Dec.{eqb}
 use lib.ListN.{List·getD-eq-default, length, getD, take, drop, replicate, drop-of-length-le, length-replicate}
-use lib.Seq.{drop-cons, drop-drop, length-front, take-append-seam}
+use lib.Seq.{drop-cons, drop-drop, length-front}
 use Rattle.cases.specs.Cases.{numberAt}
 use Rattle.cases.specs.Known.{begins, fill, filled, fresh, held, known}
 use Rattle.cases.proofs.Reading.{number-drop}
@@ -114,9 +114,6 @@ held-is fill (k ∷ ks) (x ∷ xs) e =
     let p = and-true (eqb x k) (held fill ks xs) e in
     let n : suc (length xs) - suc (length ks) ≡ length xs - length ks = omega arith in
     rw n (ap₂ _∷_ (eqb-true x k (p .0)) (held-is fill ks xs (p .1)))
-
-pub held-front : (fill : ℕ) (ks xs : List ℕ) → held fill ks xs ≡ true → take (length ks) xs ≡ ks
-held-front fill ks xs e = ap (take (length ks)) (held-is fill ks xs e) ∙ take-append-seam ks _
 
 -- a call that was lent the front of a fresh buffer, if it was so long
 module _ (size room : ℕ) (part ns bytes lent : List ℕ) where

@@ -2,9 +2,9 @@
 ghost use mathlib.Core.Bool.{_&&_};
 ghost use mathlib.Core.Path.{_≡_};
 ghost use Prim.Native.Nat.{min, _<_};
-ghost use lib.ListN.{length, take, drop};
+ghost use lib.ListN.{length, take};
 ghost use Rattle.cases.specs.Cases.{bytesBetween, endOf, halvesOf, numberAt, partOf, startOf, wordOf, wordsOf};
-ghost use Rattle.cases.specs.Known.{begins, fill, filled, held};
+ghost use Rattle.cases.specs.Known.{begins, fill, held};
 
 // What a buffer of bytes is filled with before a call.
 pub const FILL: u8 = 0xa5;
@@ -130,20 +130,6 @@ pub fn begins_with(part: &[u8], numbers: &[u64]) -> bool
             return false;
         }
         i += 1;
-    }
-    true
-}
-
-// Whether a buffer has what it was filled with, from a place on.
-pub fn kept(buffer: &[u8], from: usize, fill: u8) -> bool
-    ensures { λ r. ⌜ r ≡ filled fill (drop from (now (buffer .entry))) ⌝ }
-{
-    let mut at = from;
-    while at < buffer.len() {
-        if buffer[at] != fill {
-            return false;
-        }
-        at += 1;
     }
     true
 }

@@ -50,7 +50,7 @@ note-key-requires c κs =
     let w = c .before in
     let l = head w .loop in
     let s = start w in (
-      operands w,
+      omega (arith, operands w),
       s .pre .1,
       noting-room (s .args .code .now) (length (s .args .positions .now)) (l .positions) (l .at) (l .count) (l .inv) (turn w .loop-test .taken),
       l .inv .noted,

@@ -47,7 +47,8 @@ copy-requires c κs =
     let t = c .before .before in
     let a = t .before in
     let s = begin a in
-    (position-inside (code a) (positions a) (count a) (s .pre .0) (a .loop .j) (t .loop-test .taken), omega (arith, long a, s .pre .1, t .loop-test .taken))
+    let inside = position-inside (code a) (positions a) (count a) (s .pre .0) (a .loop .j) (t .loop-test .taken) in
+    (omega (arith, inside), omega (arith, long a, s .pre .1, t .loop-test .taken))
 
 loop-again : tie.Need-loop-again Inv-loop μ-loop
 loop-again c =
