@@ -237,13 +237,19 @@ def searched(keys):
     return found, placed
 
 
+def terminals(tokens):
+    """The most oracle terminals of so many tokens: the first takes 10, each further one 14, a constant and the comparison two."""
+    return 1 + (tokens - 12) // 14
+
+
 def search(rows):
     """The section on equal keys."""
     one, many = rows["oracle", 1024], rows["oracle keys", 1024]
     out = ["## The search for equal keys", ""]
     out += paragraph("Write stores equal keys once, so that it looks for the key of each oracle terminal among the different ones before it, and again to place the record. This search is all that "
-                     "grows faster than tokens or commands. For n terminals it compares two keys n(n - 1)/2 times and n(n + 1)/2 times where all keys differ, n - 1 times and n times where all are "
-                     "equal. The keys of `oracle keys` differ in their last two bytes alone.")
+                     "grows faster than tokens or commands. For n terminals it compares two keys n(n - 1)/2 times and n(n + 1)/2 times where all keys differ, n^2 in all, and n - 1 times and n "
+                     "times where all are equal. With a bound of %d tokens there could be %d terminals, and %d comparisons. The keys of `oracle keys` differ in their last two bytes alone."
+                     % (LONGER, terminals(LONGER), terminals(LONGER) ** 2))
     out += ["| condition | oracle terminals | different keys | comparisons to find them | to place the records | instructions of Write |", "|---|---|---|---|---|---|"]
     for s, r in (("oracle", one), ("oracle keys", many)):
         out.append("| %s | %d | %d | %d | %d | %.0f |" % (s, len(r[6]), len(set(r[6])), *searched(r[6]), r[3][2]))

@@ -63,8 +63,8 @@ pub extern "C" fn covenant_evaluate(
     answers::verdict_answer(verdict, answer.checks as u64, answer.left as u64)
 }
 
-// Write: `code` is only read. The records reported are written at the front of `kinds`, `numbers` and `places`, and their keys into the key bytes reported.
-// Refusals 1 to 5, 6, 7; a refusal writes nothing.
+// Write: `code` is only read. The records reported are written at the front of `kinds`, `numbers` and `places`, and their keys into the key bytes reported, each
+// once, in the order of the first token that names it. Refusals 1 to 5, 6, 7; a refusal writes nothing.
 #[no_mangle]
 pub extern "C" fn covenant_write(
     code: &[u8],

@@ -25,7 +25,7 @@ pub extern "C" fn covenant_decode_records(
     fields::decode_loaded(&kinds, &numbers, &places, count, keys, code)
 }
 
-// Write over records: `code` is only read; the records reported are written at the front of `records`, and their keys into the key bytes reported. Refusals 1 to 5, 6, 7.
+// Write over records: `code` is only read; the records reported are written at the front of `records`, and their keys as `covenant_write` writes them. Refusals 1 to 5, 6, 7.
 #[no_mangle]
 pub extern "C" fn covenant_write_records(
     code: &[u8],
