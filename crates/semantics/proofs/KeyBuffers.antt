@@ -1,25 +1,32 @@
--- R-5, of two calls: two conditions with one form are written alike byte for byte (`one-form`), and Decode gives one answer for all records of one token list,
--- however their keys lie (`same-tokens`).
-use Prim.Native.Nat.{ℕ, zero, suc, _+_, _≤_, _<_, _^_}
+-- R-5, of two calls: conditions with one form are written alike byte for byte, into the same buffers (`one-form`) and, so far as is reported, into any (`one-file`);
+-- and Decode gives one answer for all records of one token list, however their keys lie (`same-tokens`).
+use Prim.Native.Nat.{ℕ, zero, suc, _+_, _*_, _≤_, _<_, _^_}
 use mathlib.Core.Bool.{Bool, true, false, _&&_, _||_, cond, not}
 use mathlib.Core.Option.{some}
 use mathlib.Core.Path.{_≡_, refl, sym, ap, subst, _∙_}
-use mathlib.Core.List.{List, []}
+use mathlib.Core.List.{List, [], map}
 use native.Mathlib.Nat.{add-suc, add-zero, suc-add, zero-add}
 use native.Mathlib.Decide.{decLe}
 use native.Mathlib.Omega.{arith}
 use borrow.Author.Tests.{eq-eqb, le-leb, lt-leb, lt-ltb, ne-eqb}
 use lib.Dec.{eqb, leb, ltb}
-use lib.ListN.{length, getD, take, drop, length-drop, length-take}
+use lib.ListN.{length, getD, take, drop, length-drop, length-map, length-take}
+use lib.Seq.{take-at}
+use Rattle.slices.specs.Bytes.{Bytes}
 use Rattle.semantics.specs.Check.{Condition, condition}
 use Rattle.semantics.specs.Code.{maxTokens}
 use Rattle.semantics.specs.Decode.{Reading, decoded, decodedAs, readingSound}
+use Rattle.semantics.specs.Evaluate.{over}
 use Rattle.semantics.specs.Records.{Records, keyOf, soundAt, tokenAt, tokens, unsound, unsoundFrom}
 use Rattle.semantics.specs.Refusals.{Refusal}
 use Rattle.semantics.specs.Token.{Token, form, op}
 use Rattle.semantics.specs.Trees.{Arith}
-use Rattle.semantics.specs.Write.{leaves, writing, writingForm, written, wrote}
+use Rattle.semantics.specs.Write.{Writing, Written, joined, keysOf, leaves, placeIn, writing, writingForm, written, wrote}
+use Rattle.semantics.proofs.Forms.{form-sound}
+use Rattle.semantics.proofs.Passing.{passing}
+use Rattle.semantics.proofs.Placing.{form-wide, length-joined}
 use Rattle.semantics.proofs.Records.{getD-tokens, length-tokens}
+use Rattle.semantics.proofs.RoundTrip.{write-writes}
 
 -- "Two units wrote the same tokens"
 pub one-form : (b c : List ℕ) (x y : Arith) → condition b ≡ Condition.passed x → condition c ≡ Condition.passed y → form x ≡ form y
@@ -27,6 +34,45 @@ pub one-form : (b c : List ℕ) (x y : Arith) → condition b ≡ Condition.pass
 unfolding wrote writing
 one-form b c x y e f same old =
     rw (e, f) (ap (λ (ts : List Token). record { answer = written (writingForm ts old); records = leaves (writingForm ts old) old }) same)
+
+-- what a call reports of what it left: so many records and key bytes; a file has these
+abbrev pub reported : ℕ → ℕ → Records → Records
+reported n k r = record { kinds = take n (r .kinds); numbers = take n (r .numbers); places = take n (r .places); keys = take k (r .keys) }
+
+-- it is the form's alone
+abbrev pub fileOf : List Token → Records
+fileOf ts = record { kinds = map (λ t. t .kind) ts; numbers = map (λ t. t .number) ts; places = map (placeIn (keysOf ts)) ts; keys = joined (keysOf ts) }
+
+module _ (b : List ℕ) (bytes : Bytes b) (a : Arith) (e : condition b ≡ Condition.passed a) (old : Records) (n k : ℕ)
+    (told : wrote b old .answer ≡ Written.Records n k) where
+  abbrev ts : List Token
+  ts = form a
+
+  front : (f : Token → ℕ) (x : List ℕ) → take n (over (map f ts) x) ≡ map f ts
+  front f x = take-at (map f ts) (drop (length (map f ts)) x) n (simp length-map (sym (write-writes b a old n k e told .2)))
+
+  key-bytes : (x : List ℕ) → take k (over (joined (keysOf ts)) x) ≡ joined (keysOf ts)
+  key-bytes x =
+      let w = write-writes b a old n k e told in
+      let wide = form-wide ts old (form-sound a (passing b bytes a e .encodable) (w .1)) in
+      take-at (joined (keysOf ts)) (drop (length (joined (keysOf ts))) x) k (length-joined (keysOf ts) wide ∙ sym (w .3))
+
+  pub file-is : reported n k (wrote b old .records) ≡ fileOf ts
+  unfolding wrote
+  file-is =
+      ap (λ (w : Writing). reported n k (leaves w old)) (write-writes b a old n k e told .0)
+      ∙ rw (front (λ t. t .kind) (old .kinds), front (λ t. t .number) (old .numbers), front (placeIn (keysOf ts)) (old .places), key-bytes (old .keys))
+
+pub one-file : (b c : List ℕ) → Bytes b → Bytes c → (x y : Arith) → condition b ≡ Condition.passed x → condition c ≡ Condition.passed y → form x ≡ form y
+    → (old other : Records) (n k m l : ℕ) → wrote b old .answer ≡ Written.Records n k → wrote c other .answer ≡ Written.Records m l
+    → (n ≡ m) × (k ≡ l) × (reported n k (wrote b old .records) ≡ reported m l (wrote c other .records))
+one-file b c p q x y e f same old other n k m l told heard =
+    let w = write-writes b x old n k e told in
+    let v = write-writes c y other m l f heard in (
+      w .2 ∙ ap length same ∙ sym (v .2),
+      w .3 ∙ ap (λ (ts : List Token). 32 * length (keysOf ts)) same ∙ sym (v .3),
+      file-is b p x e old n k told ∙ ap fileOf same ∙ sym (file-is c q y f other m l heard),
+    )
 
 -- each record has a number and a place
 pub record Whole (r : Records) : Type 0 where

@@ -1,5 +1,5 @@
 -- The round trip: Decode of what Write wrote gives back the condition, the twin apart, at position 0.
-use Prim.Native.Nat.{ℕ, zero, suc, _+_, _≤_, _<_, _^_}
+use Prim.Native.Nat.{ℕ, zero, suc, _+_, _*_, _≤_, _<_, _^_}
 use mathlib.Core.Bool.{Bool, true, false, _&&_, _||_, not}
 use mathlib.Core.Option.{Option, none}
 use mathlib.Core.Path.{_≡_, refl, sym, ap, subst, _∙_}
@@ -123,16 +123,17 @@ module _ (ts : List Token) (old : Records) (sound : All Sound ts) where
   none-unsound = no-unsound r 0 (length (r .kinds)) (λ j h. subst (λ (k : ℕ). soundAt r k ≡ true) (sym (zero-add j)) (record-sound j (omega (arith, count-is))))
 
 -- what was written, where Write says that records were
-write-writes : (b : List ℕ) (a : Arith) (old : Records) (count keyBytes : ℕ) → condition b ≡ Condition.passed a → wrote b old .answer ≡ Written.Records count keyBytes
-    → (writing b old ≡ Writing.writes (form a)) × (narrow (form a) ≡ true) × (count ≡ length (form a))
+pub write-writes : (b : List ℕ) (a : Arith) (old : Records) (count keyBytes : ℕ) → condition b ≡ Condition.passed a
+    → wrote b old .answer ≡ Written.Records count keyBytes
+    → (writing b old ≡ Writing.writes (form a)) × (narrow (form a) ≡ true) × (count ≡ length (form a)) × (keyBytes ≡ 32 * length (keysOf (form a)))
 unfolding writing wrote
 write-writes b a old count keyBytes e f =
     rw e (go (narrow (form a)) (roomFor (length (form a)) (length (keysOf (form a))) old) (rw e at f))
   where
     go : (x y : Bool) → written (writesUnless (firstOf (unless x Refusal.IndexConstTooLarge ∷ unless y Refusal.BufferTooShort ∷ [])) (form a)) ≡ Written.Records count keyBytes
         → (writesUnless (firstOf (unless x Refusal.IndexConstTooLarge ∷ unless y Refusal.BufferTooShort ∷ [])) (form a) ≡ Writing.writes (form a))
-        × (x ≡ true) × (count ≡ length (form a))
-    go true true h = (refl, refl, cc)
+        × (x ≡ true) × (count ≡ length (form a)) × (keyBytes ≡ 32 * length (keysOf (form a)))
+    go true true h = (refl, refl, cc, cc)
     go true false h = let z : _≡_ {A = ℕ} 0 1 = cc in absurd (omega arith)
     go false y h = let z : _≡_ {A = ℕ} 0 1 = cc in absurd (omega arith)
 
