@@ -6,7 +6,11 @@ use semantics::Command;
 use semantics::IdxOp;
 use semantics::UnOp;
 ghost use mathlib.Core.Path.{_≡_};
+ghost use Prim.Native.Nat.{_≤_};
+ghost use lib.ListN.{length};
 ghost use Rattle.semantics.specs.Code.{commandOf, commandRow};
+ghost use Rattle.semantics.specs.Parse.{after};
+ghost use Rattle.commands.specs.Cursor.{cursorAt};
 
 // The command that a byte stands for.
 pub fn command_of(byte: u8) -> Command
@@ -63,5 +67,25 @@ pub fn width_of(command: Command) -> usize
         Command::PriceOracle1 => 40,
         Command::PriceOracle1W => 40,
         Command::Compare(_) => 0,
+    }
+}
+
+// A command, the place of its operand bytes, and the place of the command after it.
+pub struct Cursor {
+    pub command: Command,
+    pub operands: usize,
+    pub next: usize,
+}
+
+// The command at a place of code that has its operand bytes.
+pub fn next(code: &[u8], at: usize) -> Cursor
+    requires { ⌜ after (now code) at ≤ length (now code) ⌝ }
+    ensures { λ r. ⌜ r ≡ cursorAt (now (code .entry)) at ⌝ }
+{
+    let command = command_of(code[at]);
+    Cursor {
+        command,
+        operands: at + 1,
+        next: at + 1 + width_of(command),
     }
 }

@@ -7,9 +7,10 @@ use native.Mathlib.Omega.{arith}
 use lib.ListN.{length}
 use Rattle.semantics.specs.Code.{known}
 use Rattle.summary.specs.declared.Summary.{Summary}
+use Rattle.summary.proofs.Bounds.{some-token}
 use Rattle.condition.specs.declared.Walked.{Walked}
 use Rattle.condition.specs.Walk.{next, start, walked}
-use Rattle.condition.proofs.Onward.{Onward, next-tokens, onward, so-far, some-token}
+use Rattle.condition.proofs.Onward.{Onward, onward, so-far}
 use Rattle.condition.proofs.Steps.{walk-follows, walkFrom}
 use Rattle.semantics.specs.Parse.{after, commandAt}
 use Rattle.semantics.proofs.Instructions.{need-known}
@@ -38,8 +39,7 @@ module _ (code : List ℕ) (last here : Summary) (at count : ℕ) (a : Ahead cod
   ahead-known = need-known (commandAt code at) (here .values) (here .indexes) (passes-on .met)
 
   some : 1 + here .tokens ≤ next (commandAt code at) here .tokens
-  some =
-      omega (arith, next-tokens (commandAt code at) here, some-token (commandAt code at) (here .values) (here .indexes) (passes-on .met))
+  some = omega (arith, some-token (commandAt code at) ahead-known)
 
   -- a command has a token
   pub ahead-below : count < last .tokens

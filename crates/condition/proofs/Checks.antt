@@ -1,15 +1,14 @@
 -- What Check answers, by the walk: `checked-walk`.
 use Prim.Native.Nat.{ℕ, suc, _+_}
 use mathlib.Core.Path.{_≡_, refl, ap, _∙_}
-use mathlib.Core.Bool.{Bool, true, false, cond}
+use mathlib.Core.Bool.{Bool, true, false}
 use mathlib.Core.Option.{Option, none, some}
 use mathlib.Core.List.{List, [], _∷_, _++_}
 use native.Mathlib.Nat.{zero-add}
 use native.Mathlib.Omega.{arith}
 use borrow.Author.Tests.{le-ltb, leb-false, leb-true, lt-ltb, ne-eqb}
-use lib.Dec.{leb, ltb}
+use lib.Dec.{leb}
 use lib.ListN.{length}
-use Rattle.semantics.specs.declared.Checked.{Checked}
 use Rattle.semantics.specs.declared.Refusal.{Refusal}
 use Rattle.semantics.specs.declared.Terminal.{Terminal}
 use Rattle.semantics.specs.Check.{answered, checked, condition, firstOf, judged, judgedParsed, passedUnless, unless}
@@ -20,8 +19,8 @@ use Rattle.semantics.specs.Token.{form}
 use Rattle.semantics.specs.Trees.{Arith, Expr, IdxExpr}
 use Rattle.summary.specs.declared.Rule.{Rule}
 use Rattle.summary.specs.declared.Summary.{Summary}
-use Rattle.condition.specs.Walk.{counted, ended, foldTerminals, judgedSummary, judgedWalk, refusalOf, ruled, toldUnless, walked}
-use Rattle.condition.proofs.Trees.{summarised, summary, summary-oracles, summary-rule, summary-tokens, walked-summary}
+use Rattle.condition.specs.Walk.{checkedAs, counted, ended, examined, foldTerminals, judgedSummary, judgedWalk, refusalOf, ruled, toldUnless, walked}
+use Rattle.condition.proofs.Trees.{Beside, Both, forgot, sides, summarised, summary, summary-oracles, summary-rule, summary-tokens}
 
 foldTerminals-counted : (n : ℕ) (ts : List Terminal) → foldTerminals counted n ts ≡ n + oraclesIn ts
 foldTerminals-counted n [] = omega arith
@@ -62,41 +61,41 @@ some-terminal (Expr.PriceOracle1W key time) e = let z : _≡_ {A = ℕ} 0 1 = cc
 
 -- of a condition: 3, then 4 and 5, or what is passed on
 judged-as : (a : Arith) (s : Summary) → s .tokens ≡ length (form a) → s .oracles ≡ oracles a → refusalOf (s .rule) ≡ oracleRule a
-    → answered (judged a) ≡ judgedSummary s
+    → answered (judged a) ≡ checkedAs (judgedSummary s)
 unfolding judged
 judged-as a s t n r = rw (← r, ← t) (go (firstOf (unless (leb (s .tokens) maxTokens) Refusal.TooManyTokens ∷ refusalOf (s .rule) ∷ [])))
   where
-    go : (o : Option Refusal) → answered (passedUnless o a) ≡ toldUnless o s
+    go : (o : Option Refusal) → answered (passedUnless o a) ≡ checkedAs (toldUnless o s)
     go none = rw (t, n)
     go (some q) = refl
 
-judged-summary : (a : Arith) (ds : List Arith) (vs : List Expr) (is : List IdxExpr)
-    → answered (judged a) ≡ judgedSummary (summary (record { values = vs; indexes = is; conditions = a ∷ ds }))
+judged-summary : (a : Arith) (ds : List Arith) (vs : List Expr) (is : List IdxExpr) (b : Beside)
+    → answered (judged a) ≡ checkedAs (judgedSummary (summary (record { values = vs; indexes = is; conditions = a ∷ ds }) b))
 unfolding oracles oracleRule
-judged-summary (Arith.Compare o x y) ds vs is =
-    judged-as (Arith.Compare o x y) (summary (record { values = vs; indexes = is; conditions = Arith.Compare o x y ∷ ds }))
-    (summary-tokens (Arith.Compare o x y) ds vs is)
-    (summary-oracles o x y ds vs is ∙ foldTerminals-counted 0 (terminals x ++ terminals y) ∙ zero-add (oraclesIn (terminals x ++ terminals y)))
-    (ap refusalOf (summary-rule o x y ds vs is) ∙ ruled-rule (terminals x) (terminals y) (some-terminal x))
+judged-summary (Arith.Compare o x y) ds vs is b =
+    judged-as (Arith.Compare o x y) (summary (record { values = vs; indexes = is; conditions = Arith.Compare o x y ∷ ds }) b)
+    (summary-tokens (Arith.Compare o x y) ds vs is b)
+    (summary-oracles o x y ds vs is b ∙ foldTerminals-counted 0 (terminals x ++ terminals y) ∙ zero-add (oraclesIn (terminals x ++ terminals y)))
+    (ap refusalOf (summary-rule o x y ds vs is b) ∙ ruled-rule (terminals x) (terminals y) (some-terminal x))
 
 -- of a walk that has ended
-going-judged : (at : ℕ) (ds : List Arith) (vs : List Expr) (is : List IdxExpr)
-    → let g : Walk Waiting = Walk.going at (record { values = vs; indexes = is; conditions = ds }) in
-    answered (judgedParsed (finished g)) ≡ judgedWalk (ended (summarised g))
+going-judged : (at : ℕ) (ds : List Arith) (vs : List Expr) (is : List IdxExpr) (b : Beside)
+    → let g : Walk Both = Walk.going at (record { trees = record { values = vs; indexes = is; conditions = ds }; besides = b }) in
+    answered (judgedParsed (finished (forgot g))) ≡ checkedAs (judgedWalk (ended (summarised g)))
 unfolding summary
-going-judged at [] vs is = refl
-going-judged at (a ∷ ds) vs is = rw (ne-eqb (suc (length ds)) 0 (λ e. omega arith)) (judged-summary a ds vs is)
+going-judged at [] vs is b = refl
+going-judged at (a ∷ ds) vs is b = rw (ne-eqb (suc (length ds)) 0 (λ e. omega arith)) (judged-summary a ds vs is b)
 
-ended-judged : (g : Walk Waiting) → answered (judgedParsed (finished g)) ≡ judgedWalk (ended (summarised g))
-ended-judged (Walk.going at w) = going-judged at (w .conditions) (w .values) (w .indexes)
+ended-judged : (g : Walk Both) → answered (judgedParsed (finished (forgot g))) ≡ checkedAs (judgedWalk (ended (summarised g)))
+ended-judged (Walk.going at b) = going-judged at (b .trees .conditions) (b .trees .values) (b .trees .indexes) (b .besides)
 ended-judged (Walk.refused at) = refl
 
-pub checked-walk : (c : List ℕ) → checked c ≡ cond (ltb maxCode (length c)) (Checked.Refused Refusal.CodeTooLong) (judgedWalk (walked c))
-unfolding checked condition parse
+pub checked-walk : (c : List ℕ) → checked c ≡ checkedAs (examined c)
+unfolding checked condition parse examined
 checked-walk c = go (leb (length c) maxCode) refl
   where
-    go : (b : Bool) → leb (length c) maxCode ≡ b → checked c ≡ cond (ltb maxCode (length c)) (Checked.Refused Refusal.CodeTooLong) (judgedWalk (walked c))
+    go : (b : Bool) → leb (length c) maxCode ≡ b → checked c ≡ checkedAs (examined c)
     go true q =
-        rw (q, le-ltb maxCode (length c) (leb-true (length c) maxCode q), walked-summary c)
-        (ended-judged (fold treeStep (Walk.going 0 nothing) (instructions c)))
+        let w = sides c in
+        rw (q, le-ltb maxCode (length c) (leb-true (length c) maxCode q), w .summary-is, w .trees-are) (ended-judged (w .both))
     go false q = rw (q, lt-ltb maxCode (length c) (leb-false (length c) maxCode q))

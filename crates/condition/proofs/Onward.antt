@@ -1,28 +1,57 @@
 -- Code that Check lets pass: what a loop over it knows at each command.
 use Prim.Native.Nat.{ℕ, suc, _+_, _-_, _≤_, _<_}
-use mathlib.Core.Path.{_≡_, refl, sym, _∙_}
-use mathlib.Core.Bool.{Bool, true, false, cond}
+use mathlib.Core.Path.{_≡_, refl, sym, ap, _∙_}
+use mathlib.Core.Bool.{Bool, true, false, cond, _&&_}
 use mathlib.Core.List.{List, [], _∷_}
 use mathlib.Core.Option.{Option, none, some}
 use native.Mathlib.Omega.{arith}
-use borrow.Author.Tests.{leb-false, leb-true}
+use borrow.Author.Tests.{eqb-false, leb-false, leb-true}
 use lib.Dec.{eqb, leb, ltb}
-use lib.ListN.{length, drop, length-append}
+use lib.ListN.{length, drop}
 use Rattle.semantics.specs.declared.Checked.{Checked}
 use Rattle.semantics.specs.declared.Command.{Command}
 use Rattle.semantics.specs.declared.Refusal.{Refusal}
 use Rattle.semantics.specs.Check.{checked, firstOf, unless}
-use Rattle.semantics.specs.Code.{commandOf, commandRow, maxCode, maxTokens}
-use Rattle.semantics.specs.Parse.{Instruction, Walk, after, commandAt, fold, instructions, passes}
-use Rattle.semantics.proofs.Heads.{binOp-long, cmp-long, idxOp-long, list-long, unOp-long}
+use Rattle.semantics.specs.Code.{commandOf, commandRow, needMet, maxCode, maxTokens}
+use Rattle.semantics.specs.Parse.{Instruction, Walk, given, after, commandAt, fold, instructions, passes}
+use Rattle.semantics.proofs.Counts.{given-one}
+use Rattle.semantics.proofs.Instructions.{need-known}
 use Rattle.semantics.proofs.Machine.{refused-stays}
+use Rattle.semantics.proofs.Tests.{and-true}
 use Rattle.summary.specs.declared.Summary.{Summary}
+use Rattle.summary.proofs.Bounds.{modest, oracles-grow, some-token}
+use Rattle.summary.proofs.Rows.{larger-most}
+use Rattle.condition.specs.declared.Examined.{Examined}
 use Rattle.condition.specs.declared.Walked.{Walked}
-use Rattle.condition.specs.Walk.{counted, counts, ended, foldTerminals, judgedWalk, next, refusalOf, start, summaryStep, terminalsOf, toldUnless, tokensOf, walked}
+use Rattle.condition.specs.Walk.{checkedAs, counts, ended, examined, judgedWalk, next, refusalOf, start, summaryStep, toldUnless, walked}
 use Rattle.condition.proofs.Checks.{checked-walk}
 use Rattle.condition.proofs.Steps.{walk-ends, walk-fails, walk-short, walk-takes, walkFrom}
 
--- what Check passes on is what the walk comes to
+-- code that passes is what the walk comes to
+pub examined-passed : (c : List ℕ) (s : Summary) → examined c ≡ Examined.Passed s → (walked c ≡ Walked.Ended s) × (s .tokens ≤ maxTokens)
+unfolding examined
+examined-passed c s e = long (ltb maxCode (length c)) e
+  where
+    ruled : (r : Option Refusal) (t : Summary) → toldUnless (firstOf (r ∷ [])) t ≡ Examined.Passed s → t ≡ s
+    ruled none t q = cc
+    ruled (some r) t q = absurd (let z : _≡_ {A = ℕ} 0 1 = cc in omega arith)
+
+    few : (b : Bool) (t : Summary) → walked c ≡ Walked.Ended t → leb (t .tokens) maxTokens ≡ b
+        → toldUnless (firstOf (unless b Refusal.TooManyTokens ∷ refusalOf (t .rule) ∷ [])) t ≡ Examined.Passed s
+        → (walked c ≡ Walked.Ended s) × (s .tokens ≤ maxTokens)
+    few true t w b q = let k = ruled (refusalOf (t .rule)) t q in (w ∙ ap Walked.Ended k, rw (← k) (leb-true (t .tokens) maxTokens b))
+    few false t w b q = absurd (let z : _≡_ {A = ℕ} 0 1 = cc in omega arith)
+
+    ends : (w : Walked) → walked c ≡ w → judgedWalk w ≡ Examined.Passed s → (walked c ≡ Walked.Ended s) × (s .tokens ≤ maxTokens)
+    ends (Walked.Refused at) w q = absurd (let z : _≡_ {A = ℕ} 0 1 = cc in omega arith)
+    ends (Walked.Ended t) w q = few (leb (t .tokens) maxTokens) t w refl q
+
+    long : (b : Bool) → cond b (Examined.Refused Refusal.CodeTooLong) (judgedWalk (walked c)) ≡ Examined.Passed s
+        → (walked c ≡ Walked.Ended s) × (s .tokens ≤ maxTokens)
+    long true q = absurd (let z : _≡_ {A = ℕ} 0 1 = cc in omega arith)
+    long false q = ends (walked c) refl q
+
+-- what Check passes on is told of it
 pub record Accepted (c : List ℕ) (tokens oracles : ℕ) : Type 0 where
   pub last : Summary
   pub walk : walked c ≡ Walked.Ended last
@@ -31,124 +60,22 @@ pub record Accepted (c : List ℕ) (tokens oracles : ℕ) : Type 0 where
   pub few : tokens ≤ maxTokens
 
 pub accepted : (c : List ℕ) (n m : ℕ) → checked c ≡ Checked.Passed n m → Accepted c n m
-accepted c n m e = long (ltb maxCode (length c)) (sym (checked-walk c) ∙ e)
+accepted c n m e = go (examined c) refl (sym (checked-walk c) ∙ e)
   where
-    passed : (s : Summary) → walked c ≡ Walked.Ended s → s .tokens ≤ maxTokens → Checked.Passed (s .tokens) (s .oracles) ≡ Checked.Passed n m → Accepted c n m
-    passed s w h q =
+    go : (x : Examined) → examined c ≡ x → checkedAs x ≡ Checked.Passed n m → Accepted c n m
+    go (Examined.Passed s) q k =
+        let p = examined-passed c s q in
         let t : s .tokens ≡ n = cc in
-        record { last = s; walk = w; tokens-are = t; oracles-are = cc; few = omega arith }
+        record { last = s; walk = p .0; tokens-are = t; oracles-are = cc; few = omega (arith, p .1) }
+    go (Examined.Refused r) q k = absurd (let z : _≡_ {A = ℕ} 0 1 = cc in omega arith)
 
-    ruled : (r : Option Refusal) (s : Summary) → walked c ≡ Walked.Ended s → s .tokens ≤ maxTokens → toldUnless (firstOf (r ∷ [])) s ≡ Checked.Passed n m → Accepted c n m
-    ruled none s w h q = passed s w h q
-    ruled (some r) s w h q = absurd (let z : _≡_ {A = ℕ} 0 1 = cc in omega arith)
-
-    few : (b : Bool) (s : Summary) → walked c ≡ Walked.Ended s → leb (s .tokens) maxTokens ≡ b
-        → toldUnless (firstOf (unless b Refusal.TooManyTokens ∷ refusalOf (s .rule) ∷ [])) s ≡ Checked.Passed n m → Accepted c n m
-    few true s w b q = ruled (refusalOf (s .rule)) s w (leb-true (s .tokens) maxTokens b) q
-    few false s w b q = absurd (let z : _≡_ {A = ℕ} 0 1 = cc in omega arith)
-
-    ends : (w : Walked) → walked c ≡ w → judgedWalk w ≡ Checked.Passed n m → Accepted c n m
-    ends (Walked.Refused at) w q = absurd (let z : _≡_ {A = ℕ} 0 1 = cc in omega arith)
-    ends (Walked.Ended s) w q = few (leb (s .tokens) maxTokens) s w refl q
-
-    long : (b : Bool) → cond b (Checked.Refused Refusal.CodeTooLong) (judgedWalk (walked c)) ≡ Checked.Passed n m → Accepted c n m
-    long true q = absurd (let z : _≡_ {A = ℕ} 0 1 = cc in omega arith)
-    long false q = ends (walked c) refl q
-
--- a command's tokens and terminals are added
-pub next-tokens : (c : Command) (s : Summary) → next c s .tokens ≡ s .tokens + tokensOf c
-next-tokens Command.Unknown s = refl
-next-tokens Command.IdxConst s = refl
-next-tokens Command.CurrIdx s = refl
-next-tokens (Command.Index o) s = refl
-next-tokens Command.Const s = refl
-next-tokens Command.CurrInputIdx s = refl
-next-tokens (Command.Lookup l) s = refl
-next-tokens (Command.Binary o) s = refl
-next-tokens (Command.Unary o) s = refl
-next-tokens Command.PriceOracle1 s = refl
-next-tokens Command.PriceOracle1W s = refl
-next-tokens (Command.Compare o) s = refl
-
-pub next-oracles : (c : Command) (s : Summary) → next c s .oracles ≡ foldTerminals counted (s .oracles) (terminalsOf c)
-next-oracles Command.Unknown s = refl
-next-oracles Command.IdxConst s = refl
-next-oracles Command.CurrIdx s = refl
-next-oracles (Command.Index o) s = refl
-next-oracles Command.Const s = refl
-next-oracles Command.CurrInputIdx s = refl
-next-oracles (Command.Lookup l) s = refl
-next-oracles (Command.Binary o) s = refl
-next-oracles (Command.Unary o) s = refl
-next-oracles Command.PriceOracle1 s = refl
-next-oracles Command.PriceOracle1W s = refl
-next-oracles (Command.Compare o) s = refl
-
--- fewer checks than oracle terminals stay fewer
-pub oracles-grow : (c : Command) (k n : ℕ) → k ≤ n → (k ≤ foldTerminals counted k (terminalsOf c)) × (foldTerminals counted k (terminalsOf c) ≤ foldTerminals counted n (terminalsOf c))
-oracles-grow Command.Unknown k n h = omega arith
-oracles-grow Command.IdxConst k n h = omega arith
-oracles-grow Command.CurrIdx k n h = omega arith
-oracles-grow (Command.Index o) k n h = omega arith
-oracles-grow Command.Const k n h = omega arith
-oracles-grow Command.CurrInputIdx k n h = omega arith
-oracles-grow (Command.Lookup l) k n h = omega arith
-oracles-grow (Command.Binary o) k n h = omega arith
-oracles-grow (Command.Unary o) k n h = omega arith
-oracles-grow Command.PriceOracle1 k n h = omega arith
-oracles-grow Command.PriceOracle1W k n h = omega arith
-oracles-grow (Command.Compare o) k n h = omega arith
-
--- a command that can pass has a token
-pub some-token : (c : Command) (v i : ℕ) → commandRow c .need v i ≡ true → 1 ≤ tokensOf c
-some-token Command.Unknown v i e = absurd (let z : _≡_ {A = ℕ} 0 1 = cc in omega arith)
-some-token Command.IdxConst v i e = omega arith
-some-token Command.CurrIdx v i e = omega arith
-some-token (Command.Index o) v i e = simp length-append (omega (arith, idxOp-long o))
-some-token Command.Const v i e = omega arith
-some-token Command.CurrInputIdx v i e = omega arith
-some-token (Command.Lookup l) v i e = list-long l
-some-token (Command.Binary o) v i e = binOp-long o
-some-token (Command.Unary o) v i e = unOp-long o
-some-token Command.PriceOracle1 v i e = omega arith
-some-token Command.PriceOracle1W v i e = omega arith
-some-token (Command.Compare o) v i e = cmp-long o
-
--- it adds at most one to what waits
-pub height : (c : Command) (s : Summary) → next c s .values + next c s .indexes ≤ s .values + s .indexes + 1
-height Command.Unknown s = omega arith
-height Command.IdxConst s = omega arith
-height Command.CurrIdx s = omega arith
-height (Command.Index o) s = omega arith
-height Command.Const s = omega arith
-height Command.CurrInputIdx s = omega arith
-height (Command.Lookup l) s = omega arith
-height (Command.Binary o) s = omega arith
-height (Command.Unary o) s = omega arith
-height Command.PriceOracle1 s = omega arith
-height Command.PriceOracle1W s = omega arith
-height (Command.Compare o) s = omega arith
-
--- an oracle terminal has a token
-oracle-tokens : (c : Command) (n : ℕ) → foldTerminals counted n (terminalsOf c) ≤ n + tokensOf c
-oracle-tokens Command.Unknown n = omega arith
-oracle-tokens Command.IdxConst n = omega arith
-oracle-tokens Command.CurrIdx n = omega arith
-oracle-tokens (Command.Index o) n = omega arith
-oracle-tokens Command.Const n = omega arith
-oracle-tokens Command.CurrInputIdx n = omega arith
-oracle-tokens (Command.Lookup l) n = omega arith
-oracle-tokens (Command.Binary o) n = omega arith
-oracle-tokens (Command.Unary o) n = omega arith
-oracle-tokens Command.PriceOracle1 n = omega arith
-oracle-tokens Command.PriceOracle1W n = omega arith
-oracle-tokens (Command.Compare o) n = omega arith
-
--- tokens and oracle terminals up to a position are no more than in all
+-- what was met up to a position is no more than in all
 pub record SoFar (s t : Summary) : Type 0 where
   pub tokens : s .tokens ≤ t .tokens
   pub oracles : s .oracles ≤ t .oracles
   pub rest : t .oracles + s .tokens ≤ s .oracles + t .tokens
+  pub most : s .most ≤ t .most
+  pub lookups : s .lookups ≤ t .lookups
 
 grows : (ns : List Instruction) (at : ℕ) (s t : Summary) → ended (fold summaryStep (Walk.going at s) ns) ≡ Walked.Ended t
     → SoFar s t
@@ -156,7 +83,7 @@ grows [] at s t e = stop (eqb (s .conditions) 0) e
   where
     stop : (b : Bool) → cond b (Walked.Refused at) (Walked.Ended s) ≡ Walked.Ended t → SoFar s t
     stop true e = absurd (let z : _≡_ {A = ℕ} 0 1 = cc in omega arith)
-    stop false e = let q : s ≡ t = cc in rw q (record { tokens = omega arith; oracles = omega arith; rest = omega arith })
+    stop false e = let q : s ≡ t = cc in rw q (record { tokens = omega arith; oracles = omega arith; rest = omega arith; most = omega arith; lookups = omega arith })
 grows (n ∷ ns) at s t e =
     let c = commandOf (n .byte) in
     let later = grows ns (at + suc (length (n .operands))) (next c s) t in
@@ -164,11 +91,13 @@ grows (n ∷ ns) at s t e =
   where
     before : (c : Command) → SoFar (next c s) t → SoFar s t
     before c f =
-        let g = oracles-grow c (s .oracles) (s .oracles) (omega arith) .0 in
+        let g = oracles-grow (commandRow c .terminals) (s .oracles) (s .oracles) (omega arith) in
         record {
-          tokens = omega (arith, f .tokens, next-tokens c s);
-          oracles = omega (arith, f .oracles, next-oracles c s, g);
-          rest = omega (arith, f .rest, next-tokens c s, next-oracles c s, oracle-tokens c (s .oracles));
+          tokens = omega (arith, f .tokens);
+          oracles = omega (arith, f .oracles, g .0);
+          rest = omega (arith, f .rest, g .2, modest c .owned);
+          most = omega (arith, f .most, larger-most (s .most) (next c s .values + next c s .indexes) .0);
+          lookups = omega (arith, f .lookups);
         }
 
     go : (c : Command) (b : Bool)
@@ -183,7 +112,7 @@ grows (n ∷ ns) at s t e =
 -- the command at a position passes
 pub record Onward (c : List ℕ) (at : ℕ) (s t : Summary) : Type 0 where
   pub operands : at + 1 + commandRow (commandAt c at) .width ≤ length c
-  pub met : commandRow (commandAt c at) .need (s .values) (s .indexes) ≡ true
+  pub met : needMet (commandRow (commandAt c at)) (s .values) (s .indexes) ≡ true
   pub walk : walkFrom c (after c at) (next (commandAt c at) s) ≡ Walked.Ended t
 
 module _ (c : List ℕ) (at : ℕ) (s t : Summary) (ends : walkFrom c at s ≡ Walked.Ended t) where
@@ -191,7 +120,7 @@ module _ (c : List ℕ) (at : ℕ) (s t : Summary) (ends : walkFrom c at s ≡ W
   width = commandRow (commandAt c at) .width
 
   abbrev need : Bool
-  need = commandRow (commandAt c at) .need (s .values) (s .indexes)
+  need = needMet (commandRow (commandAt c at)) (s .values) (s .indexes)
 
   refuted : walkFrom c at s ≡ Walked.Refused at → ⊥
   refuted e = let q : Walked.Refused at ≡ Walked.Ended t = sym e ∙ ends in let z : _≡_ {A = ℕ} 0 1 = cc in omega arith
@@ -231,3 +160,38 @@ accepted-oracles c n m a = let f = so-far c 0 start (a .last) (a .walk) in omega
 -- so no more than a condition may have tokens
 pub few-oracles : (c : List ℕ) (t o : ℕ) → checked c ≡ Checked.Passed t o → o ≤ maxTokens
 few-oracles c t o e = let a = accepted c t o e in omega (arith, accepted-oracles c t o a, a .few)
+
+-- each operand that waits has a token, and so has the comparison
+waits-in-tokens : (ns : List Instruction) (at : ℕ) (s t : Summary) → s .values + s .indexes ≤ s .most → s .most + s .conditions ≤ s .tokens
+    → ended (fold summaryStep (Walk.going at s) ns) ≡ Walked.Ended t → t .most < t .tokens
+waits-in-tokens [] at s t w m e = stop (eqb (s .conditions) 0) refl e
+  where
+    stop : (b : Bool) → eqb (s .conditions) 0 ≡ b → cond b (Walked.Refused at) (Walked.Ended s) ≡ Walked.Ended t → t .most < t .tokens
+    stop true q e = absurd (let z : _≡_ {A = ℕ} 0 1 = cc in omega arith)
+    stop false q e = let k : s ≡ t = cc in rw (← k) (omega (arith, m, eqb-false (s .conditions) 0 q))
+waits-in-tokens (n ∷ ns) at s t w m e =
+    let c = commandOf (n .byte) in
+    go c (passes c (n .operands) (counts s)) refl (waits-in-tokens ns (at + suc (length (n .operands))) (next c s) t) e
+  where
+    go : (c : Command) (b : Bool) → passes c (n .operands) (counts s) ≡ b
+        → (next c s .values + next c s .indexes ≤ next c s .most → next c s .most + next c s .conditions ≤ next c s .tokens
+        → ended (fold summaryStep (Walk.going (at + suc (length (n .operands))) (next c s)) ns) ≡ Walked.Ended t → t .most < t .tokens)
+        → ended (fold summaryStep (cond b (Walk.going (at + suc (length (n .operands))) (next c s)) (Walk.refused at)) ns) ≡ Walked.Ended t
+        → t .most < t .tokens
+    go c true p later e =
+        let size = eqb (length (n .operands)) (commandRow c .width) in
+        let needed = needMet (commandRow c) (s .values) (s .indexes) in
+        let q = and-true size needed (and-true (eqb (s .conditions) 0) (size && needed) p .1) .1 in
+        let l = larger-most (s .most) (next c s .values + next c s .indexes) in
+        let g = given-one (commandRow c .makes) in
+        let one = some-token c (need-known c (s .values) (s .indexes) q) in
+        let a : ℕ = given (commandRow c .makes) .values + given (commandRow c .makes) .indexes in
+        let top = l .2 (s .most + a) (omega arith) (omega (arith, w)) in
+        later (l .1) (omega (arith, m, top, g, one)) e
+    go c false p later e =
+        let q : Walked.Refused at ≡ Walked.Ended t = rw (refused-stays counts (λ d m r. next d r) ns at) at e in
+        absurd (let z : _≡_ {A = ℕ} 0 1 = cc in omega arith)
+
+pub few-wait : (c : List ℕ) (t : Summary) → walked c ≡ Walked.Ended t → t .most < t .tokens
+unfolding walked
+few-wait c t e = waits-in-tokens (instructions c) 0 start t (omega arith) (omega arith) e

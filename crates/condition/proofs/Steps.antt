@@ -1,19 +1,19 @@
 -- One command of code, by its position: what a loop over the code goes by.
 use Prim.Native.Nat.{ℕ, suc, _+_, _-_, _≤_, _<_}
-use mathlib.Core.Path.{_≡_, refl, ap, _∙_}
+use mathlib.Core.Path.{_≡_, refl, ap, _∙_, subst}
 use mathlib.Core.Bool.{Bool, true, false, cond}
 use mathlib.Core.List.{List}
 use native.Mathlib.Omega.{arith}
-use borrow.Author.Tests.{eq-eqb, ne-eqb}
-use lib.Dec.{eqb}
+use borrow.Author.Tests.{eq-eqb, ltb-false, ltb-true, ne-eqb}
+use lib.Dec.{eqb, ltb}
 use lib.ListN.{length, drop, length-drop, length-take}
 use Rattle.semantics.specs.declared.Command.{Command}
-use Rattle.semantics.specs.Code.{commandRow}
+use Rattle.semantics.specs.Code.{Made, commandRow, needMet}
 use Rattle.semantics.specs.Parse.{Walk, after, commandAt, fold, instructions, operandsAt, passes}
 use Rattle.semantics.proofs.Machine.{fold-ends, fold-takes, refused-stays}
 use Rattle.summary.specs.declared.Stepped.{Stepped}
 use Rattle.summary.specs.declared.Summary.{Summary}
-use Rattle.summary.specs.Step.{stepped}
+use Rattle.summary.specs.Step.{madeAs, stepped}
 use Rattle.condition.specs.declared.Walked.{Walked}
 use Rattle.condition.specs.Walk.{counts, ended, next, summaryStep}
 
@@ -21,27 +21,12 @@ use Rattle.condition.specs.Walk.{counts, ended, next, summaryStep}
 abbrev pub walkFrom : List ℕ → ℕ → Summary → Walked
 walkFrom c at s = ended (fold summaryStep (Walk.going at s) (instructions (drop at c)))
 
--- whether its need is met is what a step tells
-pub step-passed : (c : Command) (s t : Summary) → stepped c s ≡ Stepped.Passed t → (commandRow c .need (s .values) (s .indexes) ≡ true) × (t ≡ next c s)
-step-passed c s t = go (commandRow c .need (s .values) (s .indexes))
-  where
-    go : (b : Bool) → cond b (Stepped.Passed (next c s)) Stepped.Failed ≡ Stepped.Passed t → (b ≡ true) × (t ≡ next c s)
-    go true e = (refl, cc)
-    go false e = (cc, cc)
-
-pub step-failed : (c : Command) (s : Summary) → stepped c s ≡ Stepped.Failed → commandRow c .need (s .values) (s .indexes) ≡ false
-step-failed c s = go (commandRow c .need (s .values) (s .indexes))
-  where
-    go : (b : Bool) → cond b (Stepped.Passed (next c s)) Stepped.Failed ≡ Stepped.Failed → b ≡ false
-    go true e = cc
-    go false e = refl
-
 module _ (c : List ℕ) (at : ℕ) (inside : at < length c) (s : Summary) where
   abbrev width : ℕ
   width = commandRow (commandAt c at) .width
 
   abbrev need : Bool
-  need = commandRow (commandAt c at) .need (s .values) (s .indexes)
+  need = needMet (commandRow (commandAt c at)) (s .values) (s .indexes)
 
   abbrev test : Bool
   test = passes (commandAt c at) (operandsAt c at) (counts s)
@@ -86,3 +71,46 @@ module _ (c : List ℕ) (at : ℕ) (inside : at < length c) (s : Summary) where
 pub walk-ends : (c : List ℕ) (at : ℕ) (s : Summary) → length c ≤ at
     → walkFrom c at s ≡ cond (eqb (s .conditions) 0) (Walked.Refused at) (Walked.Ended s)
 walk-ends c at s h = ap ended (fold-ends summaryStep c at h (Walk.going at s))
+
+-- ---- what a step tells
+
+module _ (c : List ℕ) (s : Summary) (inside : s .bytes < length c) (first : s .conditions ≡ 0) where
+  abbrev command : Command
+  command = commandAt c (s .bytes)
+
+  -- a summary with the command more, from which the walk goes on
+  pub record Taken (t : Summary) (conditions : ℕ) : Type 0 where
+    pub is : t ≡ next command s
+    pub operands : s .bytes + 1 + commandRow command .width ≤ length c
+    pub counted : t .conditions ≡ conditions
+    pub walk : walkFrom c (s .bytes) s ≡ walkFrom c (t .bytes) t
+
+  -- what follows from each answer
+  abbrev pub Told : Stepped → Type 0
+  Told (Stepped.Onward t) = Taken t 0
+  Told (Stepped.Compared t) = Taken t 1
+  Told Stepped.Failed = walkFrom c (s .bytes) s ≡ Walked.Refused (s .bytes)
+
+  pub step-told : (r : Stepped) → stepped command (length c) s ≡ r → Told r
+  step-told r e = subst Told e (wide (ltb (length c - s .bytes - 1) (commandRow command .width)) refl)
+    where
+      taken : (n : ℕ) → next command s .conditions ≡ n → commandRow command .width ≤ length c - s .bytes - 1
+          → needMet (commandRow command) (s .values) (s .indexes) ≡ true → Taken (next command s) n
+      taken n q h m = record { is = refl; operands = omega (arith, h, inside); counted = q; walk = walk-takes c (s .bytes) inside s first h m }
+
+      made : (m : Made) → commandRow command .makes ≡ m → commandRow command .width ≤ length c - s .bytes - 1
+          → needMet (commandRow command) (s .values) (s .indexes) ≡ true → Told (madeAs m (next command s))
+      made Made.nothing q h d = taken 0 (rw q (omega (arith, first))) h d
+      made Made.index q h d = taken 0 (rw q (omega (arith, first))) h d
+      made Made.value q h d = taken 0 (rw q (omega (arith, first))) h d
+      made Made.condition q h d = taken 1 (rw q (omega (arith, first))) h d
+
+      met : (b : Bool) → needMet (commandRow command) (s .values) (s .indexes) ≡ b → commandRow command .width ≤ length c - s .bytes - 1
+          → Told (cond b (madeAs (commandRow command .makes) (next command s)) Stepped.Failed)
+      met true d h = made (commandRow command .makes) refl h d
+      met false d h = walk-fails c (s .bytes) inside s first h d
+
+      wide : (b : Bool) → ltb (length c - s .bytes - 1) (commandRow command .width) ≡ b
+          → Told (cond b Stepped.Failed (cond (needMet (commandRow command) (s .values) (s .indexes)) (madeAs (commandRow command .makes) (next command s)) Stepped.Failed))
+      wide true q = walk-short c (s .bytes) inside s first (ltb-true (length c - s .bytes - 1) (commandRow command .width) q)
+      wide false q = met (needMet (commandRow command) (s .values) (s .indexes)) refl (ltb-false (length c - s .bytes - 1) (commandRow command .width) q)

@@ -12,18 +12,18 @@ use lib.ListN.{length, length-append, length-drop}
 use Rattle.semantics.specs.declared.CmpOp.{CmpOp}
 use Rattle.semantics.specs.declared.Command.{Command}
 use Rattle.semantics.specs.declared.Terminal.{Terminal}
-use Rattle.semantics.specs.Code.{commandRow}
+use Rattle.semantics.specs.Code.{commandRow, needMet}
 use Rattle.semantics.specs.Oracle.{terminals}
-use Rattle.semantics.specs.Parse.{Waiting, Walk, built, fold, instructions, lengths, nothing, passes, treeStep}
+use Rattle.semantics.specs.Parse.{Waiting, Walk, built, fold, instructions, lengths, nothing, passes, treeStep, walkStep}
 use Rattle.semantics.specs.Token.{exprForm, form, idxForm}
 use Rattle.semantics.specs.Trees.{Arith, Expr, IdxExpr}
+use Rattle.semantics.proofs.Counts.{lengths-built}
 use Rattle.semantics.proofs.Machine.{fold-map}
 use Rattle.semantics.proofs.ParseCode.{waiting}
 use Rattle.semantics.proofs.Tests.{and-true}
 use Rattle.summary.specs.declared.Rule.{Rule}
 use Rattle.summary.specs.declared.Summary.{Summary}
-use Rattle.condition.specs.Walk.{counted, ended, next, foldTerminals, ruled, summaryStep, terminalsOf, tokensOf, walked}
-use Rattle.summary.specs.Step.{waits}
+use Rattle.condition.specs.Walk.{counted, ended, next, foldTerminals, ruled, summaryStep, walked}
 
 -- the tokens and the terminals of the trees that wait
 exprTokens : List Expr → ℕ
@@ -46,21 +46,33 @@ terminalsIn : List Arith → List Expr → List Terminal
 terminalsIn [] vs = valueTerminals vs
 terminalsIn (Arith.Compare o x y ∷ ds) vs = terminals x ++ terminals y
 
-unfoldable pub summary : Waiting → Summary
+-- what a summary keeps that the trees do not tell
+pub record Beside : Type 0 where
+  pub bytes : ℕ
+  pub lookups : ℕ
+  pub most : ℕ
+
+unfoldable pub summary : Waiting → Beside → Summary
 unfolding exprTokens idxTokens tokensIn valueTerminals terminalsIn
-summary w =
+summary w b =
     record {
+      bytes = b .bytes;
       values = length (w .values);
       indexes = length (w .indexes);
       conditions = length (w .conditions);
       tokens = tokensIn (w .conditions) (w .values) (w .indexes);
       oracles = foldTerminals counted 0 (terminalsIn (w .conditions) (w .values));
       rule = foldTerminals ruled Rule.Unseen (terminalsIn (w .conditions) (w .values));
+      lookups = b .lookups;
+      most = b .most;
     }
 
+beside : Summary → Beside
+beside s = record { bytes = s .bytes; lookups = s .lookups; most = s .most }
+
 -- a command whose need is met adds its tokens and its terminals
-tokens-built : (c : Command) (n : List ℕ) (vs : List Expr) (is : List IdxExpr) → commandRow c .need (length vs) (length is) ≡ true
-    → let w = built c n (waiting vs is) in tokensIn (w .conditions) (w .values) (w .indexes) ≡ exprTokens vs + idxTokens is + tokensOf c
+tokens-built : (c : Command) (n : List ℕ) (vs : List Expr) (is : List IdxExpr) → needMet (commandRow c) (length vs) (length is) ≡ true
+    → let w = built c n (waiting vs is) in tokensIn (w .conditions) (w .values) (w .indexes) ≡ exprTokens vs + idxTokens is + commandRow c .tokens
 unfolding exprTokens idxTokens tokensIn exprForm idxForm form
 tokens-built Command.Unknown n vs is e = sym (add-zero (exprTokens vs + idxTokens is))
 tokens-built Command.IdxConst n vs is e = omega arith
@@ -87,8 +99,8 @@ tokens-built (Command.Compare o) n (y ∷ x ∷ []) (i ∷ is) e = absurd (omega
 tokens-built (Command.Compare o) n (y ∷ x ∷ z ∷ vs) is e =
     absurd (omega (arith, eqb-true (suc (suc (suc (length vs)))) 2 (and-true (eqb (suc (suc (suc (length vs)))) 2) (eqb (length is) 0) e .0)))
 
-terminals-built : (c : Command) (n : List ℕ) (vs : List Expr) (is : List IdxExpr) → commandRow c .need (length vs) (length is) ≡ true
-    → let w = built c n (waiting vs is) in terminalsIn (w .conditions) (w .values) ≡ valueTerminals vs ++ terminalsOf c
+terminals-built : (c : Command) (n : List ℕ) (vs : List Expr) (is : List IdxExpr) → needMet (commandRow c) (length vs) (length is) ≡ true
+    → let w = built c n (waiting vs is) in terminalsIn (w .conditions) (w .values) ≡ valueTerminals vs ++ commandRow c .terminals
 unfolding valueTerminals terminalsIn terminals
 terminals-built Command.Unknown n vs is e = sym (append-nil (valueTerminals vs))
 terminals-built Command.IdxConst n vs is e = sym (append-nil (valueTerminals vs))
@@ -115,88 +127,111 @@ foldTerminals-append : {A : Type 0} (step : A → Terminal → A) (a : A) (xs ys
 foldTerminals-append step a [] ys = refl
 foldTerminals-append step a (x ∷ xs) ys = foldTerminals-append step (step a x) xs ys
 
--- so it makes of the summary what `next` says, once its counts are known
-module _ (c : Command) (n : List ℕ) (vs : List Expr) (is : List IdxExpr) (met : commandRow c .need (length vs) (length is) ≡ true) where
+-- so it makes of the summary what `next` says
+module _ (c : Command) (n : List ℕ) (vs : List Expr) (is : List IdxExpr) (met : needMet (commandRow c) (length vs) (length is) ≡ true) where
   abbrev new : Waiting
   new = built c n (waiting vs is)
 
   foldTerminals-built : {A : Type 0} (step : A → Terminal → A) (a : A)
-      → foldTerminals step a (terminalsIn (new .conditions) (new .values)) ≡ foldTerminals step (foldTerminals step a (valueTerminals vs)) (terminalsOf c)
-  foldTerminals-built step a = ap (foldTerminals step a) (terminals-built c n vs is met) ∙ foldTerminals-append step a (valueTerminals vs) (terminalsOf c)
+      → foldTerminals step a (terminalsIn (new .conditions) (new .values)) ≡ foldTerminals step (foldTerminals step a (valueTerminals vs)) (commandRow c .terminals)
+  foldTerminals-built step a = ap (foldTerminals step a) (terminals-built c n vs is met) ∙ foldTerminals-append step a (valueTerminals vs) (commandRow c .terminals)
 
-  waits-built : {v i d : ℕ} → length (new .values) ≡ v → length (new .indexes) ≡ i → length (new .conditions) ≡ d
-      → summary new ≡ waits v i d c (summary (waiting vs is))
-  unfolding summary
-  waits-built p q r =
+  summary-built : (b : Beside) → summary new (beside (next c (summary (waiting vs is) b))) ≡ next c (summary (waiting vs is) b)
+  unfolding summary beside
+  summary-built b =
+      let l = lengths-built c n (waiting vs is) in
       let t = tokens-built c n vs is met in
       let o = foldTerminals-built counted 0 in
       let u = foldTerminals-built ruled Rule.Unseen in
-      λ k. record { values = p k; indexes = q k; conditions = r k; tokens = t k; oracles = o k; rule = u k }
-
-summary-built : (c : Command) (n : List ℕ) (vs : List Expr) (is : List IdxExpr) → commandRow c .need (length vs) (length is) ≡ true
-    → summary (built c n (waiting vs is)) ≡ next c (summary (waiting vs is))
-unfolding summary
-summary-built Command.Unknown n vs is e = waits-built Command.Unknown n vs is e refl refl refl
-summary-built Command.IdxConst n vs is e = waits-built Command.IdxConst n vs is e refl (sym (add-one (length is))) refl
-summary-built Command.CurrIdx n vs is e = waits-built Command.CurrIdx n vs is e refl (sym (add-one (length is))) refl
-summary-built (Command.Index o) n vs is e =
-    waits-built (Command.Index o) n vs is e refl (omega (arith, length-drop 2 is, leb-true 2 (length is) e)) refl
-summary-built Command.Const n vs is e = waits-built Command.Const n vs is e (sym (add-one (length vs))) refl refl
-summary-built Command.CurrInputIdx n vs is e = waits-built Command.CurrInputIdx n vs is e (sym (add-one (length vs))) refl refl
-summary-built (Command.Lookup l) n vs is e =
-    waits-built (Command.Lookup l) n vs is e (sym (add-one (length vs))) (length-drop 1 is) refl
-summary-built (Command.Binary o) n vs is e =
-    let h = leb-true 2 (length vs) (and-true (leb 2 (length vs)) (eqb (length is) 0) e .0) in
-    waits-built (Command.Binary o) n vs is e (omega (arith, length-drop 2 vs)) refl refl
-summary-built (Command.Unary o) n vs is e =
-    let h = leb-true 1 (length vs) (and-true (leb 1 (length vs)) (eqb (length is) 0) e .0) in
-    waits-built (Command.Unary o) n vs is e (omega (arith, length-drop 1 vs)) refl refl
-summary-built Command.PriceOracle1 n vs is e = waits-built Command.PriceOracle1 n vs is e (sym (add-one (length vs))) refl refl
-summary-built Command.PriceOracle1W n vs is e = waits-built Command.PriceOracle1W n vs is e (sym (add-one (length vs))) refl refl
-summary-built (Command.Compare o) n vs is e = waits-built (Command.Compare o) n vs is e (length-drop 2 vs) refl refl
+      let s = next c (summary (waiting vs is) b) in
+      λ k. record {
+        bytes = s .bytes;
+        values = l k .values;
+        indexes = l k .indexes;
+        conditions = l k .conditions;
+        tokens = t k;
+        oracles = o k;
+        rule = u k;
+        lookups = s .lookups;
+        most = s .most;
+      }
 
 -- where a comparison was met, no command passes
-passes-built : (ds : List Arith) (vs : List Expr) (is : List IdxExpr) (c : Command) (n : List ℕ)
+passes-built : (ds : List Arith) (vs : List Expr) (is : List IdxExpr) (b : Beside) (c : Command) (n : List ℕ)
     → let w : Waiting = record { values = vs; indexes = is; conditions = ds } in
-    passes c n (lengths w) ≡ true → summary (built c n w) ≡ next c (summary w)
-passes-built [] vs is c n e =
-    summary-built c n vs is (and-true (eqb (length n) (commandRow c .width)) (commandRow c .need (length vs) (length is)) e .1)
-passes-built (d ∷ ds) vs is c n e =
-    let p = and-true (eqb (suc (length ds)) 0) (eqb (length n) (commandRow c .width) && commandRow c .need (length vs) (length is)) e in
+    passes c n (lengths w) ≡ true → summary (built c n w) (beside (next c (summary w b))) ≡ next c (summary w b)
+passes-built [] vs is b c n e =
+    summary-built c n vs is (and-true (eqb (length n) (commandRow c .width)) (needMet (commandRow c) (length vs) (length is)) e .1) b
+passes-built (d ∷ ds) vs is b c n e =
+    let p = and-true (eqb (suc (length ds)) 0) (eqb (length n) (commandRow c .width) && needMet (commandRow c) (length vs) (length is)) e in
     absurd (omega (arith, eqb-true (suc (length ds)) 0 (p .0)))
 
--- the walk with trees, as one with summaries
-abbrev pub summarised : Walk Waiting → Walk Summary
-summarised (Walk.going at w) = Walk.going at (summary w)
+-- the walk with trees and what they do not tell, as the one with trees and as the one with summaries
+pub record Both : Type 0 where
+  pub trees : Waiting
+  pub besides : Beside
+
+bothStep : Walk Both → Command → List ℕ → Walk Both
+bothStep = walkStep (λ b. lengths (b .trees))
+    (λ c n b. record { trees = built c n (b .trees); besides = beside (next c (summary (b .trees) (b .besides))) })
+
+abbrev pub forgot : Walk Both → Walk Waiting
+forgot (Walk.going at b) = Walk.going at (b .trees)
+forgot (Walk.refused at) = Walk.refused at
+
+abbrev pub summarised : Walk Both → Walk Summary
+summarised (Walk.going at b) = Walk.going at (summary (b .trees) (b .besides))
 summarised (Walk.refused at) = Walk.refused at
 
-summarised-step : (g : Walk Waiting) (c : Command) (n : List ℕ) → summarised (treeStep g c n) ≡ summaryStep (summarised g) c n
-unfolding summary
-summarised-step (Walk.going at w) c n = go (passes c n (lengths w)) refl
+forgot-step : (g : Walk Both) (c : Command) (n : List ℕ) → forgot (bothStep g c n) ≡ treeStep (forgot g) c n
+unfolding bothStep
+forgot-step (Walk.going at b) c n = go (passes c n (lengths (b .trees)))
   where
-    go : (b : Bool) → passes c n (lengths w) ≡ b
-        → summarised (cond b (Walk.going (at + suc (length n)) (built c n w)) (Walk.refused at))
-        ≡ cond b (Walk.going (at + suc (length n)) (next c (summary w))) (Walk.refused at)
-    go true e = ap (Walk.going (at + suc (length n))) (passes-built (w .conditions) (w .values) (w .indexes) c n e)
+    go : (t : Bool)
+        → forgot (cond t (Walk.going (at + suc (length n)) (record { trees = built c n (b .trees); besides = beside (next c (summary (b .trees) (b .besides))) })) (Walk.refused at))
+        ≡ cond t (Walk.going (at + suc (length n)) (built c n (b .trees))) (Walk.refused at)
+    go true = refl
+    go false = refl
+forgot-step (Walk.refused at) c n = refl
+
+summarised-step : (g : Walk Both) (c : Command) (n : List ℕ) → summarised (bothStep g c n) ≡ summaryStep (summarised g) c n
+unfolding bothStep summary
+summarised-step (Walk.going at b) c n = go (passes c n (lengths (b .trees))) refl
+  where
+    go : (t : Bool) → passes c n (lengths (b .trees)) ≡ t
+        → summarised (cond t (Walk.going (at + suc (length n)) (record { trees = built c n (b .trees); besides = beside (next c (summary (b .trees) (b .besides))) })) (Walk.refused at))
+        ≡ cond t (Walk.going (at + suc (length n)) (next c (summary (b .trees) (b .besides)))) (Walk.refused at)
+    go true e = ap (Walk.going (at + suc (length n))) (passes-built (b .trees .conditions) (b .trees .values) (b .trees .indexes) (b .besides) c n e)
     go false e = refl
 summarised-step (Walk.refused at) c n = refl
 
 -- they go side by side
-pub walked-summary : (c : List ℕ) → walked c ≡ ended (summarised (fold treeStep (Walk.going 0 nothing) (instructions c)))
+pub record Sides (c : List ℕ) : Type 0 where
+  pub both : Walk Both
+  pub trees-are : fold treeStep (Walk.going 0 nothing) (instructions c) ≡ forgot both
+  pub summary-is : walked c ≡ ended (summarised both)
+
+pub sides : (c : List ℕ) → Sides c
 unfolding walked summary
-walked-summary c = ap ended (sym (fold-map treeStep summaryStep summarised summarised-step (instructions c) (Walk.going 0 nothing)))
+sides c =
+    let none : Walk Both = Walk.going 0 (record { trees = nothing; besides = record { bytes = 0; lookups = 0; most = 0 } }) in
+    record {
+      both = fold bothStep none (instructions c);
+      trees-are = sym (fold-map bothStep treeStep forgot forgot-step (instructions c) none);
+      summary-is = ap ended (sym (fold-map bothStep summaryStep summarised summarised-step (instructions c) none));
+    }
 
 -- the summary of a condition
-pub summary-tokens : (a : Arith) (ds : List Arith) (vs : List Expr) (is : List IdxExpr)
-    → summary (record { values = vs; indexes = is; conditions = a ∷ ds }) .tokens ≡ length (form a)
+pub summary-tokens : (a : Arith) (ds : List Arith) (vs : List Expr) (is : List IdxExpr) (b : Beside)
+    → summary (record { values = vs; indexes = is; conditions = a ∷ ds }) b .tokens ≡ length (form a)
 unfolding summary
-summary-tokens a ds vs is = refl
+summary-tokens a ds vs is b = refl
 
-module _ (o : CmpOp) (x y : Expr) (ds : List Arith) (vs : List Expr) (is : List IdxExpr) where
-  pub summary-oracles : summary (record { values = vs; indexes = is; conditions = Arith.Compare o x y ∷ ds }) .oracles ≡ foldTerminals counted 0 (terminals x ++ terminals y)
+module _ (o : CmpOp) (x y : Expr) (ds : List Arith) (vs : List Expr) (is : List IdxExpr) (b : Beside) where
+  pub summary-oracles : summary (record { values = vs; indexes = is; conditions = Arith.Compare o x y ∷ ds }) b .oracles ≡ foldTerminals counted 0 (terminals x ++ terminals y)
   unfolding summary
   summary-oracles = refl
 
-  pub summary-rule : summary (record { values = vs; indexes = is; conditions = Arith.Compare o x y ∷ ds }) .rule ≡ foldTerminals ruled Rule.Unseen (terminals x ++ terminals y)
+  pub summary-rule : summary (record { values = vs; indexes = is; conditions = Arith.Compare o x y ∷ ds }) b .rule ≡ foldTerminals ruled Rule.Unseen (terminals x ++ terminals y)
   unfolding summary
   summary-rule = refl

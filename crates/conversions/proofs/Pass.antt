@@ -5,14 +5,14 @@ use mathlib.Core.Path.{_≡_, refl, sym, ap, _∙_}
 use mathlib.Core.List.{List, [], _∷_, _++_}
 use native.Mathlib.Numerals.{add-one}
 use native.Mathlib.Omega.{arith}
-use borrow.Author.Tests.{leb-true}
 use lib.ListN.{getD, length, take, drop, length-drop, length-set, set, take-append-drop}
 use lib.Seq.{length-take-le, take-suc-set}
 use Rattle.slices.specs.Bytes.{All}
 use Rattle.slices.proofs.Bytes.{all-drop}
 use Rattle.semantics.specs.declared.Command.{Command}
-use Rattle.semantics.specs.Code.{commandOf, commandRow, maxTokens}
+use Rattle.semantics.specs.Code.{commandOf, commandRow, needMet, maxTokens}
 use Rattle.semantics.specs.Parse.{Instruction, after, commandAt, fold, instructions, operandsAt}
+use Rattle.semantics.proofs.Counts.{given-one}
 use Rattle.semantics.proofs.Machine.{fold-ends, fold-takes}
 use Rattle.summary.specs.declared.Summary.{Summary}
 use Rattle.condition.specs.Walk.{next, start}
@@ -24,20 +24,23 @@ use Rattle.slices.proofs.Stack.{length-stack}
 -- ---- one command
 
 -- as many indexes wait as the walk of Check counts, one more at the most
-settled-count : (c : Command) (h : Summary) (s : Marking) → length (s .waiting) ≡ h .indexes → commandRow c .need (h .values) (h .indexes) ≡ true
+settled-count : (c : Command) (h : Summary) (s : Marking) → length (s .waiting) ≡ h .indexes
     → (length (settled s c .waiting) ≡ next c h .indexes) × (next c h .indexes ≤ h .indexes + 1)
-settled-count Command.Unknown h s e m = (e, omega arith)
-settled-count Command.IdxConst h s e m = (omega arith, omega arith)
-settled-count Command.CurrIdx h s e m = (omega arith, omega arith)
-settled-count (Command.Index o) h s e m = (omega (arith, length-drop 2 (s .waiting), leb-true 2 (h .indexes) m), omega arith)
-settled-count Command.Const h s e m = (e, omega arith)
-settled-count Command.CurrInputIdx h s e m = (e, omega arith)
-settled-count (Command.Lookup l) h s e m = (omega (arith, length-drop 1 (s .waiting)), omega arith)
-settled-count (Command.Binary o) h s e m = (e, omega arith)
-settled-count (Command.Unary o) h s e m = (e, omega arith)
-settled-count Command.PriceOracle1 h s e m = (e, omega arith)
-settled-count Command.PriceOracle1W h s e m = (e, omega arith)
-settled-count (Command.Compare o) h s e m = (e, omega arith)
+settled-count c h s e = (go c, omega (arith, given-one (commandRow c .makes)))
+  where
+    go : (c : Command) → length (settled s c .waiting) ≡ next c h .indexes
+    go Command.Unknown = omega (arith, e)
+    go Command.IdxConst = omega (arith, e)
+    go Command.CurrIdx = omega (arith, e)
+    go (Command.Index o) = omega (arith, e, length-drop 2 (s .waiting))
+    go Command.Const = omega (arith, e)
+    go Command.CurrInputIdx = omega (arith, e)
+    go (Command.Lookup l) = omega (arith, e, length-drop 1 (s .waiting))
+    go (Command.Binary o) = omega (arith, e)
+    go (Command.Unary o) = omega (arith, e)
+    go Command.PriceOracle1 = omega (arith, e)
+    go Command.PriceOracle1W = omega (arith, e)
+    go (Command.Compare o) = omega (arith, e)
 
 -- the commands that ended them came before
 later : (n : ℕ) (l : List ℕ) → All (λ k. k < n) l → All (λ k. k < n + 1) l
@@ -118,7 +121,7 @@ module _ (code waiting : List ℕ) (marks : List Bool) (at count indexes : ℕ) 
     loop-below =
         let b = ahead-below code (l .last) (l .here) at count (l .ahead) inside in (omega (arith, b, l .marks-fit), omega (arith, b, l .few))
 
-    need : commandRow command .need (l .here .values) indexes ≡ true
+    need : needMet (commandRow command) (l .here .values) indexes ≡ true
     need = rw (l .indexes-are) at (passes-on code (l .last) (l .here) at count (l .ahead) inside .met)
 
     pub loop-ready : Ready command count indexes waiting marks
@@ -150,7 +153,7 @@ module _ (code waiting : List ℕ) (marks : List Bool) (at count indexes : ℕ) 
         let old = markingIn waiting indexes marks count in
         let n : length (take count marks) ≡ count = length-take-le count marks (l .passed) in
         let w : stackIn waiting′ indexes′ ≡ settled old command .waiting = ap (λ (m : Marking). m .waiting) s in
-        let k = settled-count command (l .here) old (length-stack (λ k. getD waiting k 0) indexes ∙ sym (l .indexes-are)) (passes-on code (l .last) (l .here) at count (l .ahead) inside .met) in
+        let k = settled-count command (l .here) old (length-stack (λ k. getD waiting k 0) indexes ∙ sym (l .indexes-are)) in
         let i : indexes′ ≡ next command (l .here) .indexes = sym (length-stack (λ k. getD waiting′ k 0) indexes′) ∙ ap length w ∙ k .0 in
         let m : take (count + 1) (set marks′ count false) ≡ settled old command .marks ++ false ∷ [] =
         rw (add-one, take-suc-set marks′ count false (omega (arith, q, loop-below .0)), ap (λ (m : Marking). m .marks) s) in

@@ -9,7 +9,7 @@ use Rattle.slices.specs.Stack.{stackOf}
 use Rattle.slices.specs.Bytes.{All, bytesValue}
 use Rattle.semantics.specs.declared.Command.{Command}
 use Rattle.semantics.specs.declared.IdxOp.{IdxOp}
-use Rattle.semantics.specs.Code.{commandRow, maxTokens}
+use Rattle.semantics.specs.Code.{commandRow, needMet, maxTokens}
 use Rattle.semantics.specs.Operations.{idxRow}
 use Rattle.semantics.specs.Parse.{fold, instructions}
 use Rattle.summary.specs.declared.Summary.{Summary}
@@ -81,7 +81,7 @@ markingIn waiting indexes marks count = record { waiting = stackIn waiting index
 -- what a command may go by: its operands wait, and there is room for its mark and for one operand more
 pub record Ready (c : Command) (count indexes : ℕ) (waiting : List ℕ) (marks : List Bool) : Type 0 where
   pub values : ℕ
-  pub met : commandRow c .need values indexes ≡ true
+  pub met : needMet (commandRow c) values indexes ≡ true
   pub count-fits : count < length marks
   pub few : count < maxTokens
   pub indexes-fit : indexes < length waiting

@@ -1,6 +1,6 @@
 -- What Evaluate answers, by Check's answer, the tests that follow it, and the run.
 use Prim.Native.Nat.{ℕ, _*_, _≤_, _<_}
-use mathlib.Core.Path.{_≡_}
+use mathlib.Core.Path.{_≡_, refl}
 use mathlib.Core.Bool.{Bool, true, false}
 use mathlib.Core.List.{List, [], _∷_}
 use native.Mathlib.Omega.{arith}
@@ -18,7 +18,11 @@ use Rattle.semantics.specs.Evaluation.{evalArith}
 use Rattle.semantics.specs.Parse.{fold, instructions}
 use Rattle.semantics.proofs.Passing.{Passed, answered-refused, passed}
 use Rattle.semantics.proofs.Run.{run-code}
-use Rattle.condition.proofs.Onward.{accepted}
+use Rattle.summary.specs.declared.Summary.{Summary}
+use Rattle.condition.specs.declared.Examined.{Examined}
+use Rattle.condition.specs.Walk.{examined}
+use Rattle.condition.proofs.Checks.{checked-walk}
+use Rattle.condition.proofs.Onward.{examined-passed, few-wait}
 use Rattle.witness.specs.Elements.{leftOf, stateOf}
 use Rattle.evaluation.specs.Run.{Answers, Bounded, Fits}
 use Rattle.semantics.specs.Run.{Run, runStep}
@@ -69,13 +73,20 @@ module _ (b : List ℕ) (bytes : Bytes b) (l : Lent) (n m : ℕ) (passes : check
         let s = rw (initial-state l, ← k .coded, run-code (l .env) (known .tree) (k .encodable) (initial l)) at r in
         rw (guards, p, q, le-leb (112 * m) (length (l .buffer)) h) s
 
--- what the run needs of it
-pub bounded : (b : List ℕ) (n m size : ℕ) → checked b ≡ Checked.Passed n m → 112 * m ≤ size → Bounded b n size
-bounded b n m size e h =
-    let a = accepted b n m e in
-    record { last = a .last; walk = a .walk; tokens-are = a .tokens-are; few = a .few; room = omega (arith, a .oracles-are, h) }
+-- what is known of code that passes is what Check tells of it
+pub passed-on : (b : List ℕ) (s : Summary) → examined b ≡ Examined.Passed s → checked b ≡ Checked.Passed (s .tokens) (s .oracles)
+passed-on b s e = rw (checked-walk b, e)
 
--- arrays of so many operands are enough
-pub bounded-fits : {code : List ℕ} {tokens : ℕ} {values indexes : List ℤ} {out : List ℕ} → Bounded code tokens (length out)
-    → tokens ≤ length values → tokens ≤ length indexes → Fits code values indexes out
-bounded-fits b v i = record { last = b .last; walk = b .walk; values-fit = rw (b .tokens-are) v; indexes-fit = rw (b .tokens-are) i; room = b .room }
+pub refused-on : (b : List ℕ) (r : Refusal) → examined b ≡ Examined.Refused r → checked b ≡ Checked.Refused r
+refused-on b r e = rw (checked-walk b, e)
+
+-- what the run needs of it
+pub bounded : (b : List ℕ) (s : Summary) (size : ℕ) → examined b ≡ Examined.Passed s → 112 * s .oracles ≤ size → Bounded b (s .most) size
+bounded b s size e h =
+    let p = examined-passed b s e in
+    record { last = s; walk = p .0; most-is = refl; few = omega (arith, few-wait b s (p .0), p .1); room = h }
+
+-- arrays of more operands are enough
+pub bounded-fits : {code : List ℕ} {most : ℕ} {values indexes : List ℤ} {out : List ℕ} → Bounded code most (length out)
+    → most < length values → most < length indexes → Fits code values indexes out
+bounded-fits b v i = record { last = b .last; walk = b .walk; values-fit = rw (b .most-is) v; indexes-fit = rw (b .most-is) i; room = b .room }

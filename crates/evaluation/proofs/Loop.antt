@@ -5,8 +5,6 @@ use mathlib.Core.Bool.{Bool, true}
 use mathlib.Core.List.{List, [], _∷_}
 use mathlib.Core.Option.{Option, none, some}
 use native.Mathlib.Omega.{arith}
-use borrow.Author.Tests.{leb-true}
-use lib.Dec.{eqb, leb}
 use lib.IntN.{ℤ, pos}
 use lib.ListN.{length, take, drop, getD, length-drop, take-append-drop}
 use lib.Seq.{drop-drop, length-take-le}
@@ -15,17 +13,18 @@ use Rattle.index64.specs.Steps.{inRange}
 use Rattle.semantics.specs.declared.AmountList.{AmountList}
 use Rattle.semantics.specs.declared.Command.{Command}
 use Rattle.semantics.specs.declared.Verdict.{Verdict}
-use Rattle.semantics.specs.Code.{commandRow}
+use Rattle.semantics.specs.Code.{commandRow, needMet}
 use Rattle.semantics.specs.Evaluate.{ended, endsSound, over}
 use Rattle.semantics.specs.Evaluation.{Env, Outcome, State, err, lookedUp, ok, oracle, outcome}
 use Rattle.semantics.specs.Operations.{binRow, idxRow, unRow}
 use Rattle.semantics.specs.Parse.{Instruction, after, commandAt, fold, instructions, operandsAt}
 use Rattle.semantics.proofs.Machine.{fold-takes}
-use Rattle.semantics.proofs.Tests.{and-true}
 use Rattle.summary.specs.declared.Summary.{Summary}
 use Rattle.condition.specs.declared.Walked.{Walked}
-use Rattle.condition.specs.Walk.{counted, foldTerminals, next, start, terminalsOf, walked}
-use Rattle.condition.proofs.Onward.{Onward, SoFar, height, inside, next-oracles, next-tokens, onward, oracles-grow, so-far, some-token}
+use Rattle.condition.specs.Walk.{counted, foldTerminals, next, start, walked}
+use Rattle.condition.proofs.Onward.{Onward, SoFar, inside, onward, so-far}
+use Rattle.summary.proofs.Bounds.{oracles-grow}
+use Rattle.summary.proofs.Rows.{larger-most}
 use Rattle.condition.proofs.Steps.{walkFrom}
 use Rattle.stacks.specs.declared.Turn.{Turn}
 use Rattle.witness.specs.Elements.{stateOf}
@@ -55,32 +54,32 @@ module _ (s : Summary) where
   index-counted c vs is st p q r none = tt
 
   acts-counted : (env : Env) (c : Command) (n : List ℕ) (vs is : List ℤ) (st : State) → s .values ≡ length vs → s .indexes ≡ length is
-      → commandRow c .need (length vs) (length is) ≡ true → Counted c s (act env c n vs is st)
+      → needMet (commandRow c) (length vs) (length is) ≡ true → Counted c s (act env c n vs is st)
   acts-counted env Command.Unknown n vs is st p q e = absurd (let z : _≡_ {A = ℕ} 0 1 = cc in omega arith)
   acts-counted env Command.IdxConst n vs is st p q e =
-      index-counted Command.IdxConst vs is st p (ap (λ (k : ℕ). k + 1) q) refl (inRange (pos (bytesValue n)))
+      index-counted Command.IdxConst vs is st (omega (arith, p)) (omega (arith, q)) (omega arith) (inRange (pos (bytesValue n)))
   acts-counted env Command.CurrIdx n vs is st p q e =
-      index-counted Command.CurrIdx vs is st p (ap (λ (k : ℕ). k + 1) q) refl (inRange (pos (env .current)))
+      index-counted Command.CurrIdx vs is st (omega (arith, p)) (omega (arith, q)) (omega arith) (inRange (pos (env .current)))
   acts-counted env (Command.Index o) n vs is st p q e =
-      index-counted (Command.Index o) vs (drop 2 is) st p (omega (arith, q, length-drop 2 is, leb-true 2 (length is) e)) refl
+      index-counted (Command.Index o) vs (drop 2 is) st (omega (arith, p)) (omega (arith, q, length-drop 2 is)) (omega arith)
       (idxRow o .result (operand is 1) (operand is 0))
-  acts-counted env Command.Const n vs is st p q e = (omega (arith, p), q, refl)
+  acts-counted env Command.Const n vs is st p q e = (omega (arith, p), omega (arith, q), omega arith)
   acts-counted env Command.CurrInputIdx n vs is st p q e =
-      value-counted Command.CurrInputIdx vs is (ap (λ (k : ℕ). k + 1) p) q refl (outcome (lookedUp env AmountList.Input (inRange (pos (env .current)))) st)
+      value-counted Command.CurrInputIdx vs is (omega (arith, p)) (omega (arith, q)) (omega arith)
+      (outcome (lookedUp env AmountList.Input (inRange (pos (env .current)))) st)
   acts-counted env (Command.Lookup l) n vs is st p q e =
-      value-counted (Command.Lookup l) vs (drop 1 is) (ap (λ (k : ℕ). k + 1) p) (omega (arith, q, length-drop 1 is)) refl
+      value-counted (Command.Lookup l) vs (drop 1 is) (omega (arith, p)) (omega (arith, q, length-drop 1 is)) (omega arith)
       (outcome (lookedUp env l (some (operand is 0))) st)
   acts-counted env (Command.Binary o) n vs is st p q e =
-      let h = leb-true 2 (length vs) (and-true (leb 2 (length vs)) (eqb (length is) 0) e .0) in
-      value-counted (Command.Binary o) (drop 2 vs) is (omega (arith, p, length-drop 2 vs)) q refl
+      value-counted (Command.Binary o) (drop 2 vs) is (omega (arith, p, length-drop 2 vs)) (omega (arith, q)) (omega arith)
       (outcome (binRow o .result (operand vs 1) (operand vs 0)) st)
   acts-counted env (Command.Unary o) n vs is st p q e =
-      let h = leb-true 1 (length vs) (and-true (leb 1 (length vs)) (eqb (length is) 0) e .0) in
-      value-counted (Command.Unary o) (drop 1 vs) is (omega (arith, p, length-drop 1 vs)) q refl (outcome (unRow o .result (operand vs 0)) st)
+      value-counted (Command.Unary o) (drop 1 vs) is (omega (arith, p, length-drop 1 vs)) (omega (arith, q)) (omega arith)
+      (outcome (unRow o .result (operand vs 0)) st)
   acts-counted env Command.PriceOracle1 n vs is st p q e =
-      value-counted Command.PriceOracle1 vs is (ap (λ (k : ℕ). k + 1) p) q refl (oracle (take 32 n) (bytesValue (drop 32 n)) st)
+      value-counted Command.PriceOracle1 vs is (omega (arith, p)) (omega (arith, q)) (omega arith) (oracle (take 32 n) (bytesValue (drop 32 n)) st)
   acts-counted env Command.PriceOracle1W n vs is st p q e =
-      value-counted Command.PriceOracle1W vs is (ap (λ (k : ℕ). k + 1) p) q refl (oracle (take 32 n) (bytesValue (drop 32 n)) st)
+      value-counted Command.PriceOracle1W vs is (omega (arith, p)) (omega (arith, q)) (omega arith) (oracle (take 32 n) (bytesValue (drop 32 n)) st)
   acts-counted env (Command.Compare o) n vs is st p q e = tt
 
 -- ---- the position in the code: so many values and indexes wait, and so many checks are listed
@@ -91,7 +90,7 @@ pub record Ahead (code : List ℕ) (t : Summary) (at v i checks : ℕ) : Type 0 
   pub indexes : here .indexes ≡ i
   pub conditions : here .conditions ≡ 0
   pub walk : walkFrom code at here ≡ Walked.Ended t
-  pub few : v + i ≤ here .tokens
+  pub few : v + i ≤ here .most
   pub made : checks ≤ here .oracles
 
 pub ahead-start : (code : List ℕ) (t : Summary) → walked code ≡ Walked.Ended t → Ahead code t 0 0 0 0
@@ -109,32 +108,32 @@ module _ (code : List ℕ) (t : Summary) (at v i checks : ℕ) (a : Ahead code t
   passes-on : Onward code at (a .here) t
   passes-on = onward code at (a .here) t (a .walk) (a .conditions)
 
-  met : commandRow command .need v i ≡ true
+  met : needMet (commandRow command) v i ≡ true
   met = rw (a .values, a .indexes) at (passes-on .met)
 
   so-many : SoFar (next command (a .here)) t
   so-many = so-far code (after code at) (next command (a .here)) t (passes-on .walk)
 
-  below : v + i < t .tokens
-  below = omega (arith, a .few, so-many .tokens, next-tokens command (a .here), some-token command v i met)
+  below : v + i ≤ t .most
+  below = omega (arith, a .few, so-far code at (a .here) t (a .walk) .most)
 
-  pub ahead-ready : (values indexes : List ℤ) → t .tokens ≤ length values → t .tokens ≤ length indexes → Ready command v i values indexes
+  pub ahead-ready : (values indexes : List ℤ) → t .most < length values → t .most < length indexes → Ready command v i values indexes
   ahead-ready values indexes p q = record { met = met; values-fit = omega (arith, p, below); indexes-fit = omega (arith, q, below) }
 
-  listed : foldTerminals counted checks (terminalsOf command) ≤ t .oracles
-  listed = omega (arith, oracles-grow command checks (a .here .oracles) (a .made) .1, so-many .oracles, next-oracles command (a .here))
+  listed : foldTerminals counted checks (commandRow command .terminals) ≤ t .oracles
+  listed = omega (arith, oracles-grow (commandRow command .terminals) checks (a .here .oracles) (a .made) .1, so-many .oracles)
 
   pub ahead-supplied : (witness ends out : List ℕ) (left : ℕ) → 112 * t .oracles ≤ length out → left ≤ length ends → endsSound 0 (length witness) ends ≡ true
       → Supplied command code (at + 1) witness ends out left checks
   ahead-supplied witness ends out left p q r =
       record { operands = omega (arith, passes-on .operands); room = omega (arith, p, listed); few = q; sound = r }
 
-  pub checks-fit : (checks′ : ℕ) → checks′ ≤ foldTerminals counted checks (terminalsOf command) → checks′ ≤ t .oracles
+  pub checks-fit : (checks′ : ℕ) → checks′ ≤ foldTerminals counted checks (commandRow command .terminals) → checks′ ≤ t .oracles
   checks-fit checks′ h = omega (arith, h, listed)
 
   -- after a command that goes on
   pub ahead-next : (env : Env) (n : List ℕ) (vs is : List ℤ) (st st′ : State) (f g : ℕ → ℤ) (v′ i′ checks′ : ℕ) → length vs ≡ v → length is ≡ i
-      → Run.going (stackOf f v′) (stackOf g i′) st′ ≡ act env command n vs is st → checks′ ≤ foldTerminals counted checks (terminalsOf command)
+      → Run.going (stackOf f v′) (stackOf g i′) st′ ≡ act env command n vs is st → checks′ ≤ foldTerminals counted checks (commandRow command .terminals)
       → Ahead code t (after code at) v′ i′ checks′
   ahead-next env n vs is st st′ f g v′ i′ checks′ p q e h =
       let c = rw (← e) at (acts-counted (a .here) env command n vs is st (a .values ∙ sym p) (a .indexes ∙ sym q) (rw (p, q) met)) in
@@ -146,9 +145,8 @@ module _ (code : List ℕ) (t : Summary) (at v i checks : ℕ) (a : Ahead code t
         indexes = y;
         conditions = c .2 ∙ a .conditions;
         walk = passes-on .walk;
-        few =
-            omega (arith, height command (a .here), next-tokens command (a .here), some-token command v i met, a .few, a .values, a .indexes, x, y);
-        made = omega (arith, h, oracles-grow command checks (a .here .oracles) (a .made) .1, next-oracles command (a .here));
+        few = omega (arith, larger-most (a .here .most) (next command (a .here) .values + next command (a .here) .indexes) .1, x, y);
+        made = omega (arith, h, oracles-grow (commandRow command .terminals) checks (a .here .oracles) (a .made) .1);
       }
 
 -- ---- the run
@@ -177,8 +175,8 @@ kept-later j k new old h e =
 pub record Loop (env : Env) (code witness ends out₀ out : List ℕ) (values indexes : List ℤ) (v i left checks at : ℕ) : Type 0 where
   pub last : Summary
   pub ahead : Ahead code last at v i checks
-  pub values-fit : last .tokens ≤ length values
-  pub indexes-fit : last .tokens ≤ length indexes
+  pub values-fit : last .most < length values
+  pub indexes-fit : last .most < length indexes
   pub room : 112 * last .oracles ≤ length out
   pub few : left ≤ length ends
   pub kept : drop (112 * checks) out ≡ drop (112 * checks) out₀

@@ -9,8 +9,8 @@ use native.Mathlib.Omega.{arith}
 use Rattle.semantics.specs.declared.Command.{Command}
 use Rattle.semantics.specs.Code.{commandRow}
 use Rattle.semantics.specs.Evaluate.{endsSound}
-use Rattle.condition.specs.Walk.{counted, foldTerminals, terminalsOf}
-use Rattle.condition.proofs.Onward.{oracles-grow}
+use Rattle.condition.specs.Walk.{counted, foldTerminals}
+use Rattle.summary.proofs.Bounds.{oracles-grow}
 use Rattle.witness.specs.Oracle.{Asks}
 use Rattle.witness.specs.declared.Witness.{Witness}
 use Rattle.evaluation.specs.Run.{Oracular}
@@ -18,7 +18,7 @@ use Rattle.evaluation.specs.Run.{Oracular}
 -- a command's operand bytes are there, the witness is sound, and there is room for the check of an oracle terminal
 pub record Supplied (c : Command) (code : List ℕ) (at : ℕ) (witness ends out : List ℕ) (left checks : ℕ) : Type 0 where
   pub operands : at + commandRow c .width ≤ length code
-  pub room : 112 * foldTerminals counted checks (terminalsOf c) ≤ length out
+  pub room : 112 * foldTerminals counted checks (commandRow c .terminals) ≤ length out
   pub few : left ≤ length ends
   pub sound : endsSound 0 (length witness) ends ≡ true
 
@@ -26,12 +26,12 @@ pub record Supplied (c : Command) (code : List ℕ) (at : ℕ) (witness ends out
 pub record Moves (c : Command) (left checks left′ checks′ : ℕ) (old new : List ℕ) : Type 0 where
   pub fewer : left′ ≤ left
   pub more : checks ≤ checks′
-  pub counted-in : checks′ ≤ foldTerminals counted checks (terminalsOf c)
+  pub counted-in : checks′ ≤ foldTerminals counted checks (commandRow c .terminals)
   pub kept : drop (112 * checks′) new ≡ drop (112 * checks′) old
 
 pub rests : (c : Command) (left checks : ℕ) (out : List ℕ) → Moves c left checks left checks out out
 rests c left checks out =
-    record { fewer = omega arith; more = omega arith; counted-in = oracles-grow c checks checks (omega arith) .0; kept = refl }
+    record { fewer = omega arith; more = omega arith; counted-in = oracles-grow (commandRow c .terminals) checks checks (omega arith) .0; kept = refl }
 
 pub oracle-width : (c : Command) → Oracular c → commandRow c .width ≡ 40
 oracle-width c (inl e) = rw e

@@ -65,16 +65,16 @@ Pushed s values values′ price (Next.Ended r) =
 pub record Fits (code : List ℕ) (values indexes : List ℤ) (out : List ℕ) : Type 0 where
   pub last : Summary
   pub walk : walked code ≡ Walked.Ended last
-  pub values-fit : last .tokens ≤ length values
-  pub indexes-fit : last .tokens ≤ length indexes
+  pub values-fit : last .most < length values
+  pub indexes-fit : last .most < length indexes
   pub room : 112 * last .oracles ≤ length out
 
--- the same, by what Check passed on
-pub record Bounded (code : List ℕ) (tokens size : ℕ) : Type 0 where
+-- the same, where at most so many wait
+pub record Bounded (code : List ℕ) (most size : ℕ) : Type 0 where
   pub last : Summary
   pub walk : walked code ≡ Walked.Ended last
-  pub tokens-are : last .tokens ≡ tokens
-  pub few : tokens ≤ maxTokens
+  pub most-is : last .most ≡ most
+  pub few : most < maxTokens
   pub room : 112 * last .oracles ≤ size
 
 -- what a run that has stopped answers

@@ -1,5 +1,5 @@
 // Evaluate: the verdict of a condition at an input of a transaction, with the signature checks that it rests on, or why there is none.
-use semantics::Checked;
+use condition::Examined;
 use semantics::Evaluated;
 use semantics::MAX_TOKENS;
 use semantics::Refusal;
@@ -18,10 +18,10 @@ ghost use Rattle.semantics.specs.Run.{Run, runStep};
 
 mod run;
 
-// Conditions of so few tokens are evaluated in smaller arrays, which take less time to make.
-const FEW_TOKENS: usize = 16;
+// Where fewer operands ever wait, a condition is evaluated in smaller arrays, which take less time to make.
+const FEW: usize = 8;
 
-const SOME_TOKENS: usize = 128;
+const SOME: usize = 64;
 
 // A condition that Check let pass, with arrays for the operands that wait.
 fn run_passed(
@@ -38,15 +38,15 @@ fn run_passed(
     witness: &[u8],
     ends: &[u32],
     out: &mut [u8],
-    tokens: usize,
+    most: usize,
 ) -> Evaluated
     requires { ⌜ endsSound 0 (length (now witness)) (now ends) ≡ true ⌝ }
-    requires { ⌜ Bounded (now code) tokens (length (now out)) ⌝ }
+    requires { ⌜ Bounded (now code) most (length (now out)) ⌝ }
     ensures { λ r. ⌜ Answers (now (out .entry)) (fold (runStep (envOf (now (spent .entry)) (now («spent_marks» .entry)) (now (outputs .entry)) (now («output_marks» .entry)) (now (issued .entry)) (now («issued_marks» .entry)) (now (reissued .entry)) (now («reissued_marks» .entry)) current)) (Run.going [] [] (stateOf (now (witness .entry)) (now (ends .entry)) (now (out .entry)) (length (now (ends .entry))) 0)) (instructions (now (code .entry)))) (record { answer = r; buffer = now (out .exit) }) ⌝ }
 {
-    if tokens <= FEW_TOKENS {
-        let mut vals = [0; FEW_TOKENS];
-        let mut idxs = [0; FEW_TOKENS];
+    if most < FEW {
+        let mut vals = [0; FEW];
+        let mut idxs = [0; FEW];
         return run::run(
             code,
             spent,
@@ -65,9 +65,9 @@ fn run_passed(
             &mut idxs,
         );
     }
-    if tokens <= SOME_TOKENS {
-        let mut vals = [0; SOME_TOKENS];
-        let mut idxs = [0; SOME_TOKENS];
+    if most < SOME {
+        let mut vals = [0; SOME];
+        let mut idxs = [0; SOME];
         return run::run(
             code,
             spent,
@@ -136,9 +136,9 @@ pub fn evaluate(
 ) -> Evaluated
     ensures { λ r. ⌜ record { answer = r; buffer = now (out .exit) } ≡ evaluated (now (code .entry)) (record { env = envOf (now (spent .entry)) (now («spent_marks» .entry)) (now (outputs .entry)) (now («output_marks» .entry)) (now (issued .entry)) (now («issued_marks» .entry)) (now (reissued .entry)) (now («reissued_marks» .entry)) current; witness = now (witness .entry); ends = now (ends .entry); buffer = now (out .entry) }) ⌝ }
 {
-    match condition::check(code) {
-        Checked::Refused(r) => refused(r, ends.len()),
-        Checked::Passed { tokens, oracles } => {
+    match condition::examine(code) {
+        Examined::Refused(r) => refused(r, ends.len()),
+        Examined::Passed(s) => {
             if !amounts::amounts_sound(
                 spent,
                 spent_marks,
@@ -154,7 +154,7 @@ pub fn evaluate(
             if !witness::ends_sound(ends, witness.len()) {
                 return refused(Refusal::WitnessUnsound, ends.len());
             }
-            if out.len() < CHECK_BYTES * oracles {
+            if out.len() < CHECK_BYTES * s.oracles {
                 return refused(Refusal::BufferTooShort, ends.len());
             }
             run_passed(
@@ -171,7 +171,7 @@ pub fn evaluate(
                 witness,
                 ends,
                 out,
-                tokens,
+                s.most,
             )
         }
     }

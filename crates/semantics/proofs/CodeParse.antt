@@ -9,7 +9,7 @@ use lib.Dec.{eqb, leb}
 use lib.ListN.{length, length-drop, length-take, take, drop, take-append-drop}
 use Rattle.slices.specs.Bytes.{All, Bytes, bytesValue, littleEndian}
 use Rattle.slices.proofs.Bytes.{all-append, all-drop, all-getD, all-take, bytes-of-value, value-lt}
-use Rattle.semantics.specs.Code.{Command, code, commandOf, commandRow, exprCode, idxCode}
+use Rattle.semantics.specs.Code.{Command, code, commandOf, commandRow, needMet, exprCode, idxCode}
 use Rattle.semantics.specs.Parse.{Instruction, Parsed, Waiting, Walk, built, finished, fold, index, instructions, lengths, nothing, parse, passes, treeStep, value}
 use Rattle.semantics.specs.Trees.{Arith, Expr, IdxExpr}
 use Rattle.semantics.proofs.Encodable.{Encodable, ExprEncodable, IdxEncodable, OracleEncodable}
@@ -58,7 +58,7 @@ module _ (v : List ℕ) (b : ℕ) (n : List ℕ) (w : length n ≡ 0) where
   after-one x = rw (empty n w) (simp append-assoc)
 
 -- a command that passes adds its bytes
-adds : (c : Command) (n : List ℕ) (vs : List Expr) (is : List IdxExpr) → commandRow c .need (length vs) (length is) ≡ true
+adds : (c : Command) (n : List ℕ) (vs : List Expr) (is : List IdxExpr) → needMet (commandRow c) (length vs) (length is) ≡ true
     → length n ≡ commandRow c .width → Bytes n → waitingCode (built c n (waiting vs is)) ≡ waitingCode (waiting vs is) ++ commandRow c .byte ∷ n
 unfolding exprCodes idxCodes codeOf waitingCode idxCode exprCode code
 adds Command.Unknown n vs is e w h = cc
@@ -115,7 +115,7 @@ passed false ns g at a e =
 record Passed (n : Instruction) (ns : List Instruction) (at : ℕ) (w : Waiting) (a : Arith) : Type 0 where
   first : eqb (length (w .conditions)) 0 ≡ true
   whole : length (n .operands) ≡ commandRow (commandOf (n .byte)) .width
-  need : commandRow (commandOf (n .byte)) .need (length (w .values)) (length (w .indexes)) ≡ true
+  need : needMet (commandRow (commandOf (n .byte))) (length (w .values)) (length (w .indexes)) ≡ true
   rest : finished (fold treeStep (Walk.going (at + suc (length (n .operands))) (built (commandOf (n .byte)) (n .operands) w)) ns) ≡ Parsed.tree a
 
 step-passed : (n : Instruction) (ns : List Instruction) (at : ℕ) (w : Waiting) (a : Arith)
@@ -123,7 +123,7 @@ step-passed : (n : Instruction) (ns : List Instruction) (at : ℕ) (w : Waiting)
 step-passed n ns at w a e =
     let c = commandOf (n .byte) in
     let size = eqb (length (n .operands)) (commandRow c .width) in
-    let needed = commandRow c .need (length (w .values)) (length (w .indexes)) in
+    let needed = needMet (commandRow c) (length (w .values)) (length (w .indexes)) in
     let p = passed (passes c (n .operands) (lengths w)) ns (Walk.going (at + suc (length (n .operands))) (built c (n .operands) w)) at a e in
     let q = and-true (eqb (length (w .conditions)) 0) (size && needed) (p .0) in
     let r = and-true size needed (q .1) in

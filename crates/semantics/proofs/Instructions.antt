@@ -10,7 +10,7 @@ use lib.ListN.{length, take, drop, take-append-drop}
 use lib.Seq.{take-at, drop-at, drop-nil}
 use Rattle.semantics.specs.Operations.{binRow, cmpRow, idxRow, listRow, unRow}
 use Rattle.semantics.specs.Trees.{BinOp, CmpOp, IdxOp, AmountList, UnOp}
-use Rattle.semantics.specs.Code.{Command, commandIn, commandOf, commandRow, commands, known}
+use Rattle.semantics.specs.Code.{Command, Made, commandIn, commandOf, commandRow, commands, isSome, known, needMet, needOf}
 use Rattle.semantics.specs.Parse.{Instruction, instructions, instructionsAfter, width}
 
 -- the bytes that instructions were read from
@@ -78,19 +78,14 @@ compare-command o =
     elim o [ CmpOp.Eq ↦ refl | CmpOp.Lt ↦ refl | CmpOp.Leq ↦ refl | CmpOp.Gt ↦ refl | CmpOp.Geq ↦ refl ]
 
 -- a command that passes is known
-pub need-known : (c : Command) (v i : ℕ) → commandRow c .need v i ≡ true → known c ≡ true
-need-known Command.Unknown v i e = e
-need-known Command.IdxConst v i e = refl
-need-known Command.CurrIdx v i e = refl
-need-known (Command.Index o) v i e = refl
-need-known Command.Const v i e = refl
-need-known Command.CurrInputIdx v i e = refl
-need-known (Command.Lookup l) v i e = refl
-need-known (Command.Binary o) v i e = refl
-need-known (Command.Unary o) v i e = refl
-need-known Command.PriceOracle1 v i e = refl
-need-known Command.PriceOracle1W v i e = refl
-need-known (Command.Compare o) v i e = refl
+pub need-known : (c : Command) (v i : ℕ) → needMet (commandRow c) v i ≡ true → known c ≡ true
+need-known c v i = go (commandRow c .makes)
+  where
+    go : (m : Made) → needOf m (commandRow c .values) (commandRow c .indexes) v i ≡ true → isSome m ≡ true
+    go Made.nothing e = e
+    go Made.index e = refl
+    go Made.value e = refl
+    go Made.condition e = refl
 
 -- the byte of each command: that of a byte which stands for a command that passes
 byte-in : (cs : List Command) (b : ℕ) → known (commandIn cs b) ≡ true → commandRow (commandIn cs b) .byte ≡ b

@@ -4,6 +4,7 @@ pub mod Refusals
 pub mod Encodable
 pub mod Instructions
 pub mod Machine
+pub mod Counts
 pub mod ParseCode
 pub mod CodeParse
 pub mod Passing

@@ -9,7 +9,7 @@ use lib.ListN.{length}
 use lib.Seq.{take-at, drop-at}
 use Rattle.slices.specs.Bytes.{littleEndian}
 use Rattle.slices.proofs.Bytes.{length-littleEndian, value-of-bytes}
-use Rattle.semantics.specs.Code.{Command, code, commandRow}
+use Rattle.semantics.specs.Code.{Command, code, commandRow, needMet}
 use Rattle.semantics.specs.Parse.{Parsed, Waiting, Walk, built, finished, nothing, parse, treeStep}
 use Rattle.semantics.specs.Trees.{Arith, Expr, IdxExpr}
 use Rattle.semantics.proofs.Encodable.{Encodable, ExprEncodable, IdxEncodable}
@@ -29,7 +29,7 @@ then {g} a b = record { on = λ at. (b .on (a .on at .0) .0, ap g (a .on at .1) 
 
 -- one command
 goes : (c : Command) (n : List ℕ) (vs : List Expr) (is : List IdxExpr) {w′ : Waiting} → length n ≡ commandRow c .width
-    → commandRow c .need (length vs) (length is) ≡ true → built c n (waiting vs is) ≡ w′
+    → needMet (commandRow c) (length vs) (length is) ≡ true → built c n (waiting vs is) ≡ w′
     → Goes (λ s. treeStep s c n) (waiting vs is) w′
 goes c n vs is w h r = record { on = λ at. (at + suc (length n), rw (w, eqb-own (commandRow c .width), h, r)) }
 

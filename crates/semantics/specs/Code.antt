@@ -1,11 +1,13 @@
 -- "Condition code": "one byte of command, operands of fixed width, operands before their operation, left before right".
-use Prim.Native.Nat.{ℕ, _*_}
+use Prim.Native.Nat.{ℕ, zero, suc, _*_}
 use mathlib.Core.Bool.{Bool, true, false, _&&_, cond}
 use mathlib.Core.List.{List, [], _∷_, _++_, map}
 use lib.Dec.{eqb, leb}
+use lib.ListN.{length}
 use Rattle.slices.specs.Bytes.{littleEndian}
 use Rattle.semantics.specs.Operations.{idxRow, listRow, binRow, unRow, cmpRow, idxOps, amountLists, binOps, unOps, cmpOps}
-use Rattle.semantics.specs.Trees.{IdxExpr, Expr, Arith}
+use Rattle.semantics.specs.Trees.{AmountList, IdxExpr, Expr, Arith}
+use Rattle.semantics.specs.declared.Terminal.{Terminal}
 pub use Rattle.semantics.specs.declared.Command.{Command}
 
 -- refusals 3 and 10: "over 1,024 tokens"; refusal 1: "over 9,216 bytes"
@@ -15,26 +17,80 @@ maxTokens = 1024
 abbrev pub maxCode : ℕ
 maxCode = 9 * maxTokens
 
--- a command's byte, the number of its operand bytes, and its need "with v values and i indexes waiting"
+-- what a command makes of the operands that it takes; the byte of an unknown one makes nothing
+pub data Made : Type 0 where
+  nothing : Made
+  index : Made
+  value : Made
+  condition : Made
+
+-- a command's byte; the number of its operand bytes; the values and indexes that it takes, and what it makes of them; the number of its own tokens;
+-- the terminal that it is, and the list that it looks up, if it is one and does
 pub record CommandRow : Type 0 where
   pub byte : ℕ
   pub width : ℕ
-  pub need : ℕ → ℕ → Bool
+  pub values : ℕ
+  pub indexes : ℕ
+  pub makes : Made
+  pub tokens : ℕ
+  pub terminals : List Terminal
+  pub lists : List AmountList
+
+abbrev pub row : ℕ → ℕ → ℕ → ℕ → Made → ℕ → List Terminal → List AmountList → CommandRow
+row byte width values indexes makes tokens terminals lists =
+    record {
+      byte = byte;
+      width = width;
+      values = values;
+      indexes = indexes;
+      makes = makes;
+      tokens = tokens;
+      terminals = terminals;
+      lists = lists;
+    }
+
+abbrev pub other : List Terminal
+other = Terminal.Other ∷ []
 
 abbrev pub commandRow : Command → CommandRow
 -- every byte that no row below has; `commands` leaves this row out, so that its own byte is never compared
-commandRow Command.Unknown = record { byte = 0; width = 0; need = λ v i. false }
-commandRow Command.IdxConst = record { byte = 1; width = 8; need = λ v i. true }
-commandRow Command.CurrIdx = record { byte = 2; width = 0; need = λ v i. true }
-commandRow (Command.Index o) = record { byte = idxRow o .command; width = 0; need = λ v i. leb 2 i }
-commandRow Command.Const = record { byte = 16; width = 8; need = λ v i. eqb i 0 }
-commandRow Command.CurrInputIdx = record { byte = 17; width = 0; need = λ v i. eqb i 0 }
-commandRow (Command.Lookup l) = record { byte = listRow l .command; width = 0; need = λ v i. eqb i 1 }
-commandRow (Command.Binary o) = record { byte = binRow o .command; width = 0; need = λ v i. leb 2 v && eqb i 0 }
-commandRow (Command.Unary o) = record { byte = unRow o .command; width = 0; need = λ v i. leb 1 v && eqb i 0 }
-commandRow Command.PriceOracle1 = record { byte = 32; width = 40; need = λ v i. eqb i 0 }
-commandRow Command.PriceOracle1W = record { byte = 33; width = 40; need = λ v i. eqb i 0 }
-commandRow (Command.Compare o) = record { byte = cmpRow o .command; width = 0; need = λ v i. eqb v 2 && eqb i 0 }
+commandRow Command.Unknown = row 0 0 0 0 Made.nothing 0 [] []
+commandRow Command.IdxConst = row 1 8 0 0 Made.index 1 [] []
+commandRow Command.CurrIdx = row 2 0 0 0 Made.index 1 [] []
+commandRow (Command.Index o) = row (idxRow o .command) 0 0 2 Made.index (length (idxRow o .between ++ idxRow o .form)) [] []
+commandRow Command.Const = row 16 8 0 0 Made.value 1 other []
+commandRow Command.CurrInputIdx = row 17 0 0 0 Made.value 5 other (AmountList.Input ∷ [])
+commandRow (Command.Lookup l) = row (listRow l .command) 0 0 1 Made.value (length (listRow l .form)) other (l ∷ [])
+commandRow (Command.Binary o) = row (binRow o .command) 0 2 0 Made.value (length (binRow o .form)) [] []
+commandRow (Command.Unary o) = row (unRow o .command) 0 1 0 Made.value (length (unRow o .form)) [] []
+commandRow Command.PriceOracle1 = row 32 40 0 0 Made.value 10 (Terminal.PriceOracle1 ∷ []) []
+commandRow Command.PriceOracle1W = row 33 40 0 0 Made.value 13 (Terminal.PriceOracle1W ∷ []) []
+commandRow (Command.Compare o) = row (cmpRow o .command) 0 2 0 Made.condition (length (cmpRow o .form)) [] []
+
+-- whether as many wait as are taken
+abbrev pub enough : ℕ → ℕ → Bool
+enough zero n = true
+enough (suc k) n = leb (suc k) n
+
+-- "With v values and i indexes waiting": what it takes waits; no index stays below a value, and nothing below a condition
+abbrev pub needOf : Made → ℕ → ℕ → ℕ → ℕ → Bool
+needOf Made.nothing values indexes v i = false
+needOf Made.index values indexes v i = enough values v && enough indexes i
+needOf Made.value values indexes v i = enough values v && eqb i indexes
+needOf Made.condition values indexes v i = eqb v values && eqb i indexes
+
+abbrev pub needMet : CommandRow → ℕ → ℕ → Bool
+needMet r v i = needOf (r .makes) (r .values) (r .indexes) v i
+
+-- whether a command is that of some byte
+abbrev pub isSome : Made → Bool
+isSome Made.nothing = false
+isSome Made.index = true
+isSome Made.value = true
+isSome Made.condition = true
+
+abbrev pub known : Command → Bool
+known c = isSome (commandRow c .makes)
 
 abbrev pub commands : List Command
 commands =
@@ -68,18 +124,3 @@ exprCode (Expr.PriceOracle1W key time) = commandRow Command.PriceOracle1W .byte 
 -- "Comparison", which "end[s] the code"
 unfoldable pub code : Arith → List ℕ
 code (Arith.Compare o x y) = exprCode x ++ exprCode y ++ cmpRow o .command ∷ []
-
--- whether a command is that of some byte
-abbrev pub known : Command → Bool
-known Command.Unknown = false
-known Command.IdxConst = true
-known Command.CurrIdx = true
-known (Command.Index o) = true
-known Command.Const = true
-known Command.CurrInputIdx = true
-known (Command.Lookup l) = true
-known (Command.Binary o) = true
-known (Command.Unary o) = true
-known Command.PriceOracle1 = true
-known Command.PriceOracle1W = true
-known (Command.Compare o) = true

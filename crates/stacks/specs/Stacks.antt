@@ -11,7 +11,7 @@ use Rattle.slices.specs.Stack.{stackOf}
 use Rattle.slices.specs.Bytes.{bytesValue}
 use Rattle.semantics.specs.declared.Command.{Command}
 use Rattle.semantics.specs.declared.Verdict.{Verdict}
-use Rattle.semantics.specs.Code.{commandRow}
+use Rattle.semantics.specs.Code.{commandRow, needMet}
 use Rattle.semantics.specs.Evaluation.{Env, Outcome, State, err, lookedUp, ok, oracle, outcome}
 use Rattle.semantics.specs.Run.{Run, pushValue}
 use Rattle.stacks.specs.declared.Effect.{Effect}
@@ -31,7 +31,7 @@ runOf values indexes st (Turn.Ended v) = Run.stopped (concluded v st)
 
 -- what a command may go by: its operands wait, and its result has room
 pub record Ready (c : Command) (v i : ℕ) (values indexes : List ℤ) : Type 0 where
-  pub met : commandRow c .need v i ≡ true
+  pub met : needMet (commandRow c) v i ≡ true
   pub values-fit : v + i < length values
   pub indexes-fit : v + i < length indexes
 

@@ -1,7 +1,10 @@
--- What a command adds at the most.
-use Prim.Native.Nat.{ℕ, _+_, _≤_}
-use mathlib.Core.Path.{_≡_}
+-- What a command adds, at the least and at the most.
+use Prim.Native.Nat.{ℕ, _+_, _-_, _≤_, _<_}
+use mathlib.Core.Path.{_≡_, refl}
+use mathlib.Core.Bool.{true}
+use mathlib.Core.List.{List, [], _∷_}
 use native.Mathlib.Omega.{arith}
+use lib.ListN.{length, length-append}
 use Rattle.semantics.specs.declared.AmountList.{AmountList}
 use Rattle.semantics.specs.declared.BinOp.{BinOp}
 use Rattle.semantics.specs.declared.CmpOp.{CmpOp}
@@ -9,8 +12,13 @@ use Rattle.semantics.specs.declared.Command.{Command}
 use Rattle.semantics.specs.declared.IdxOp.{IdxOp}
 use Rattle.semantics.specs.declared.Terminal.{Terminal}
 use Rattle.semantics.specs.declared.UnOp.{UnOp}
+use Rattle.semantics.specs.Code.{CommandRow, commandRow, known, maxCode}
+use Rattle.semantics.specs.Parse.{given}
+use Rattle.semantics.proofs.Counts.{given-one}
+use Rattle.semantics.proofs.Heads.{binOp-long, cmp-long, idxOp-long, list-long, unOp-long}
 use Rattle.summary.specs.declared.Summary.{Summary}
-use Rattle.summary.specs.Step.{Small, counted, mostTokens, next, tokensOf}
+use Rattle.summary.specs.Step.{Inside, Small, counted, foldTerminals, mostTokens, next}
+use Rattle.summary.proofs.Rows.{larger-most}
 
 -- a terminal is at most one oracle terminal
 pub counted-add : (n : ℕ) (t : Terminal) → counted n t ≡ n + counted 0 t
@@ -23,8 +31,22 @@ counted-le Terminal.Other = omega arith
 counted-le Terminal.PriceOracle1 = omega arith
 counted-le Terminal.PriceOracle1W = omega arith
 
--- a command adds at most so many tokens, and one to what waits
-pub tokens-le : (c : Command) → tokensOf c ≤ mostTokens
+-- and some terminals at most as many; fewer oracle terminals stay fewer
+pub oracles-grow : (ts : List Terminal) (k n : ℕ) → k ≤ n
+    → (k ≤ foldTerminals counted k ts) × (foldTerminals counted k ts ≤ foldTerminals counted n ts) × (foldTerminals counted k ts ≤ k + length ts)
+oracles-grow [] k n h = (omega arith, h, omega arith)
+oracles-grow (t ∷ ts) k n h =
+    let r = oracles-grow ts (counted k t) (counted n t) (omega (arith, counted-add k t, counted-add n t)) in
+    (omega (arith, r .0, counted-add k t), r .1, omega (arith, r .2, counted-add k t, counted-le t))
+
+-- of each row: it has few tokens, it is a terminal once at the most, with a token then, and looks up a list once at the most
+pub record Modest (r : CommandRow) : Type 0 where
+  pub tokens : r .tokens ≤ mostTokens
+  pub terminals : length (r .terminals) ≤ 1
+  pub owned : length (r .terminals) ≤ r .tokens
+  pub lists : length (r .lists) ≤ 1
+
+tokens-le : (c : Command) → commandRow c .tokens ≤ mostTokens
 tokens-le Command.Unknown = omega arith
 tokens-le Command.IdxConst = omega arith
 tokens-le Command.CurrIdx = omega arith
@@ -50,16 +72,69 @@ tokens-le Command.PriceOracle1W = omega arith
 tokens-le (Command.Compare o) =
     elim o [ CmpOp.Eq ↦ omega arith | CmpOp.Lt ↦ omega arith | CmpOp.Leq ↦ omega arith | CmpOp.Gt ↦ omega arith | CmpOp.Geq ↦ omega arith ]
 
+columns : (c : Command)
+    → (length (commandRow c .terminals) ≤ 1) × (length (commandRow c .terminals) ≤ commandRow c .tokens) × (length (commandRow c .lists) ≤ 1)
+columns Command.Unknown = (omega arith, omega arith, omega arith)
+columns Command.IdxConst = (omega arith, omega arith, omega arith)
+columns Command.CurrIdx = (omega arith, omega arith, omega arith)
+columns (Command.Index o) = (omega arith, omega arith, omega arith)
+columns Command.Const = (omega arith, omega arith, omega arith)
+columns Command.CurrInputIdx = (omega arith, omega arith, omega arith)
+columns (Command.Lookup l) = (omega arith, list-long l, omega arith)
+columns (Command.Binary o) = (omega arith, omega arith, omega arith)
+columns (Command.Unary o) = (omega arith, omega arith, omega arith)
+columns Command.PriceOracle1 = (omega arith, omega arith, omega arith)
+columns Command.PriceOracle1W = (omega arith, omega arith, omega arith)
+columns (Command.Compare o) = (omega arith, omega arith, omega arith)
+
+pub modest : (c : Command) → Modest (commandRow c)
+modest c = record { tokens = tokens-le c; terminals = columns c .0; owned = columns c .1; lists = columns c .2 }
+
+-- a command has a token
+pub some-token : (c : Command) → known c ≡ true → 1 ≤ commandRow c .tokens
+some-token Command.Unknown e = absurd (let z : _≡_ {A = ℕ} 0 1 = cc in omega arith)
+some-token Command.IdxConst e = omega arith
+some-token Command.CurrIdx e = omega arith
+some-token (Command.Index o) e = simp length-append (omega (arith, idxOp-long o))
+some-token Command.Const e = omega arith
+some-token Command.CurrInputIdx e = omega arith
+some-token (Command.Lookup l) e = list-long l
+some-token (Command.Binary o) e = binOp-long o
+some-token (Command.Unary o) e = unOp-long o
+some-token Command.PriceOracle1 e = omega arith
+some-token Command.PriceOracle1W e = omega arith
+some-token (Command.Compare o) e = cmp-long o
+
+-- it adds at most one to what waits
+pub height : (c : Command) (s : Summary) → next c s .values + next c s .indexes ≤ s .values + s .indexes + 1
+height c s = omega (arith, given-one (commandRow c .makes))
+
 pub small-next : (c : Command) (n w : ℕ) (s : Summary) → Small n s → Small (n + 1 + w) (next c s)
-small-next Command.Unknown n w s h = omega arith
-small-next Command.IdxConst n w s h = omega arith
-small-next Command.CurrIdx n w s h = omega arith
-small-next (Command.Index o) n w s h = omega (arith, tokens-le (Command.Index o))
-small-next Command.Const n w s h = omega arith
-small-next Command.CurrInputIdx n w s h = omega arith
-small-next (Command.Lookup l) n w s h = omega (arith, tokens-le (Command.Lookup l))
-small-next (Command.Binary o) n w s h = omega (arith, tokens-le (Command.Binary o))
-small-next (Command.Unary o) n w s h = omega (arith, tokens-le (Command.Unary o))
-small-next Command.PriceOracle1 n w s h = omega arith
-small-next Command.PriceOracle1W n w s h = omega arith
-small-next (Command.Compare o) n w s h = omega (arith, tokens-le (Command.Compare o))
+small-next c n w s h =
+    let m = modest c in
+    let l = larger-most (s .most) (next c s .values + next c s .indexes) in
+    record {
+      conditions = omega (arith, h .conditions, given-one (commandRow c .makes));
+      tokens = omega (arith, h .tokens, m .tokens);
+      oracles = omega (arith, h .oracles, oracles-grow (commandRow c .terminals) (s .oracles) (s .oracles) (omega arith) .2, m .terminals);
+      lookups = omega (arith, h .lookups, m .lists);
+      waiting = l .1;
+      most = l .2 (n + 1 + w) (omega (arith, h .most)) (omega (arith, height c s, h .waiting, h .most));
+    }
+
+-- so a place in the code has no more than a step may go by
+pub small-inside : (size : ℕ) (s : Summary) → s .bytes < size → size ≤ maxCode → Small (s .bytes) s → Inside size s
+small-inside size s w h k =
+    record {
+      within = w;
+      short = h;
+      small =
+          record {
+            conditions = omega (arith, k .conditions);
+            tokens = omega (arith, k .tokens);
+            oracles = omega (arith, k .oracles);
+            lookups = omega (arith, k .lookups);
+            waiting = k .waiting;
+            most = omega (arith, k .most);
+          };
+    }

@@ -1,2 +1,3 @@
 -- Laws of what the specs of this crate define.
+pub mod Rows
 pub mod Bounds

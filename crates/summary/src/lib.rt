@@ -1,18 +1,12 @@
 // What one pass over the commands of condition code keeps, and what one command more makes of it.
-use semantics::AmountList;
-use semantics::BinOp;
-use semantics::CmpOp;
-use semantics::Command;
-use semantics::IdxOp;
 use semantics::Terminal;
-use semantics::UnOp;
+ghost use mathlib.Core.List.{[], _∷_};
 ghost use mathlib.Core.Path.{_≡_};
 ghost use Prim.Native.Nat.{_≤_};
-ghost use Rattle.semantics.specs.declared.Command.{Command};
-ghost use Rattle.semantics.specs.Code.{maxCode};
-ghost use Rattle.summary.specs.Step.{Small, counted, leafStepped, mostTokens, ruled, stepped};
-
-mod tokens;
+ghost use Rattle.semantics.specs.declared.AmountList.{AmountList};
+ghost use Rattle.semantics.specs.declared.Terminal.{Terminal};
+ghost use Rattle.semantics.specs.Code.{Made, commandOf, other, row};
+ghost use Rattle.summary.specs.Step.{Inside, counted, larger, mostTokens, ruled, stepped, steppedBy};
 
 // What is known of the oracle rule after some terminals.
 pub enum Rule {
@@ -22,20 +16,25 @@ pub enum Rule {
     Missing,
 }
 
-// What one pass over the commands keeps: how many values, indexes and conditions wait, how many tokens and oracle terminals there were, and the oracle rule.
-// An enum field is copied to a local before it is used.
+// What one pass over the commands keeps: how many bytes they have, how many values, indexes and conditions wait, how many tokens, oracle terminals and
+// lookups there were, the oracle rule, and the greatest number of values and indexes that ever waited.
+// An enum field is copied to a local before it is used. Tokens are 32 bits wide, or the compiler would pair them with the bytes in a vector register.
 pub struct Summary {
+    pub bytes: usize,
     pub values: usize,
     pub indexes: usize,
     pub conditions: usize,
-    pub tokens: usize,
+    pub tokens: u32,
     pub oracles: usize,
     pub rule: Rule,
+    pub lookups: usize,
+    pub most: usize,
 }
 
-// A summary with one command more, or that the command's need is not met.
+// A summary with one command more, which a comparison ends; or that the command's operand bytes are not all there or its need is not met.
 pub enum Stepped {
-    Passed(Summary),
+    Onward(Summary),
+    Compared(Summary),
     Failed,
 }
 
@@ -70,127 +69,121 @@ fn next_rule(rule: Rule, terminal: Terminal) -> Rule
     }
 }
 
-// An index constant or the current index.
-fn index_leaf(s: Summary) -> Stepped
-    requires { ⌜ Small maxCode s ⌝ }
-    ensures { λ r. ⌜ r ≡ stepped Command.IdxConst s ⌝ }
+// The greatest number that waited, where now `waiting` do. A command that takes something never raises it, so that only the others test.
+fn raised(taken: usize, most: usize, waiting: usize) -> usize
+    requires { ⌜ (1 ≤ taken → waiting ≤ most) ⌝ }
+    ensures { λ r. ⌜ r ≡ larger most waiting ⌝ }
 {
-    let rule = s.rule;
-    Stepped::Passed(Summary {
-        values: s.values,
-        indexes: s.indexes + 1,
-        conditions: s.conditions,
-        tokens: s.tokens + 1,
-        oracles: s.oracles,
-        rule,
-    })
+    if taken != 0 {
+        return most;
+    }
+    if most < waiting { waiting } else { most }
 }
 
-// An operation on two indexes.
-fn index_step(op: IdxOp, s: Summary) -> Stepped
-    requires { ⌜ Small maxCode s ⌝ }
-    ensures { λ r. ⌜ r ≡ stepped (Command.Index op) s ⌝ }
+// A command that makes an index.
+fn index(width: usize, taken: usize, tokens: u32, length: usize, s: Summary) -> Stepped
+    requires { ⌜ (tokens ≤ mostTokens) × Inside length s ⌝ }
+    ensures { λ r. ⌜ r ≡ steppedBy (row 0 width 0 taken Made.index tokens [] []) length s ⌝ }
 {
-    if s.indexes < 2 {
+    if length - s.bytes - 1 < width {
         return Stepped::Failed;
     }
+    if s.indexes < taken {
+        return Stepped::Failed;
+    }
+    let indexes = s.indexes - taken + 1;
     let rule = s.rule;
-    Stepped::Passed(Summary {
+    Stepped::Onward(Summary {
+        bytes: s.bytes + 1 + width,
         values: s.values,
-        indexes: s.indexes - 1,
+        indexes,
         conditions: s.conditions,
-        tokens: s.tokens + tokens::index(op),
+        tokens: s.tokens + tokens,
         oracles: s.oracles,
         rule,
+        lookups: s.lookups,
+        most: raised(taken, s.most, s.values + indexes),
     })
 }
 
-// A value terminal without an index, of so many tokens.
-fn leaf(tokens: usize, terminal: Terminal, s: Summary) -> Stepped
-    requires { ⌜ (tokens ≤ mostTokens) × Small maxCode s ⌝ }
-    ensures { λ r. ⌜ r ≡ leafStepped tokens terminal s ⌝ }
+// A value terminal that takes nothing and is no lookup.
+fn leaf(width: usize, tokens: u32, terminal: Terminal, length: usize, s: Summary) -> Stepped
+    requires { ⌜ (tokens ≤ mostTokens) × Inside length s ⌝ }
+    ensures { λ r. ⌜ r ≡ steppedBy (row 0 width 0 0 Made.value tokens (terminal ∷ []) []) length s ⌝ }
 {
+    if length - s.bytes - 1 < width {
+        return Stepped::Failed;
+    }
     if s.indexes != 0 {
         return Stepped::Failed;
     }
+    let values = s.values + 1;
     let rule = s.rule;
-    Stepped::Passed(Summary {
-        values: s.values + 1,
+    Stepped::Onward(Summary {
+        bytes: s.bytes + 1 + width,
+        values,
         indexes: s.indexes,
         conditions: s.conditions,
         tokens: s.tokens + tokens,
         oracles: s.oracles + oracles_of(terminal),
         rule: next_rule(rule, terminal),
+        lookups: s.lookups,
+        most: raised(0, s.most, values),
     })
 }
 
-// An amount of a list at an index.
-fn lookup(list: AmountList, s: Summary) -> Stepped
-    requires { ⌜ Small maxCode s ⌝ }
-    ensures { λ r. ⌜ r ≡ stepped (Command.Lookup list) s ⌝ }
+// An amount of a list, at so many indexes: that of the current input takes none.
+fn lookup(taken: usize, tokens: u32, length: usize, s: Summary) -> Stepped
+    requires { ⌜ (tokens ≤ mostTokens) × Inside length s ⌝ }
+    ensures { λ r. ⌜ r ≡ steppedBy (row 0 0 0 taken Made.value tokens other (AmountList.Input ∷ [])) length s ⌝ }
 {
-    if s.indexes != 1 {
+    if s.indexes != taken {
         return Stepped::Failed;
     }
+    let values = s.values + 1;
     let rule = s.rule;
-    Stepped::Passed(Summary {
-        values: s.values + 1,
-        indexes: s.indexes - 1,
+    Stepped::Onward(Summary {
+        bytes: s.bytes + 1,
+        values,
+        indexes: 0,
         conditions: s.conditions,
-        tokens: s.tokens + tokens::lookup(list),
+        tokens: s.tokens + tokens,
         oracles: s.oracles,
         rule: next_rule(rule, Terminal::Other),
+        lookups: s.lookups + 1,
+        most: raised(taken, s.most, values),
     })
 }
 
-// An operation on two values.
-fn binary(op: BinOp, s: Summary) -> Stepped
-    requires { ⌜ Small maxCode s ⌝ }
-    ensures { λ r. ⌜ r ≡ stepped (Command.Binary op) s ⌝ }
+// An operation on one or two values.
+fn operation(taken: usize, tokens: u32, length: usize, s: Summary) -> Stepped
+    requires { ⌜ (1 ≤ taken) × (tokens ≤ mostTokens) × Inside length s ⌝ }
+    ensures { λ r. ⌜ r ≡ steppedBy (row 0 0 taken 0 Made.value tokens [] []) length s ⌝ }
 {
-    if s.values < 2 {
+    if s.values < taken {
         return Stepped::Failed;
     }
     if s.indexes != 0 {
         return Stepped::Failed;
     }
     let rule = s.rule;
-    Stepped::Passed(Summary {
-        values: s.values - 1,
+    Stepped::Onward(Summary {
+        bytes: s.bytes + 1,
+        values: s.values - taken + 1,
         indexes: s.indexes,
         conditions: s.conditions,
-        tokens: s.tokens + tokens::binary(op),
+        tokens: s.tokens + tokens,
         oracles: s.oracles,
         rule,
-    })
-}
-
-// An operation on one value.
-fn unary(op: UnOp, s: Summary) -> Stepped
-    requires { ⌜ Small maxCode s ⌝ }
-    ensures { λ r. ⌜ r ≡ stepped (Command.Unary op) s ⌝ }
-{
-    if s.values < 1 {
-        return Stepped::Failed;
-    }
-    if s.indexes != 0 {
-        return Stepped::Failed;
-    }
-    let rule = s.rule;
-    Stepped::Passed(Summary {
-        values: s.values,
-        indexes: s.indexes,
-        conditions: s.conditions,
-        tokens: s.tokens + tokens::unary(op),
-        oracles: s.oracles,
-        rule,
+        lookups: s.lookups,
+        most: s.most,
     })
 }
 
 // A comparison of two values, which is a condition.
-fn comparison(op: CmpOp, s: Summary) -> Stepped
-    requires { ⌜ Small maxCode s ⌝ }
-    ensures { λ r. ⌜ r ≡ stepped (Command.Compare op) s ⌝ }
+fn comparison(tokens: u32, length: usize, s: Summary) -> Stepped
+    requires { ⌜ (tokens ≤ mostTokens) × Inside length s ⌝ }
+    ensures { λ r. ⌜ r ≡ steppedBy (row 0 0 2 0 Made.condition tokens [] []) length s ⌝ }
 {
     if s.values != 2 {
         return Stepped::Failed;
@@ -199,33 +192,55 @@ fn comparison(op: CmpOp, s: Summary) -> Stepped
         return Stepped::Failed;
     }
     let rule = s.rule;
-    Stepped::Passed(Summary {
-        values: s.values - 2,
+    Stepped::Compared(Summary {
+        bytes: s.bytes + 1,
+        values: 0,
         indexes: s.indexes,
         conditions: s.conditions + 1,
-        tokens: s.tokens + tokens::compare(op),
+        tokens: s.tokens + tokens,
         oracles: s.oracles,
         rule,
+        lookups: s.lookups,
+        most: s.most,
     })
 }
 
-// One command: a summary with it, where its need is met.
-pub fn step(command: Command, s: Summary) -> Stepped
-    requires { ⌜ Small maxCode s ⌝ }
-    ensures { λ r. ⌜ r ≡ stepped command s ⌝ }
+// The command of a byte, in code of so many bytes. An arm is a row of the table: operand bytes, what is taken, tokens. One number an arm: the compiler would
+// make a range test of adjacent ones.
+pub fn step(byte: u8, length: usize, s: Summary) -> Stepped
+    requires { ⌜ Inside length s ⌝ }
+    ensures { λ r. ⌜ r ≡ stepped (commandOf byte) length s ⌝ }
 {
-    match command {
-        Command::Unknown => Stepped::Failed,
-        Command::IdxConst => index_leaf(s),
-        Command::CurrIdx => index_leaf(s),
-        Command::Index(op) => index_step(op, s),
-        Command::Const => leaf(tokens::CONST, Terminal::Other, s),
-        Command::CurrInputIdx => leaf(tokens::CURR_INPUT_IDX, Terminal::Other, s),
-        Command::Lookup(list) => lookup(list, s),
-        Command::Binary(op) => binary(op, s),
-        Command::Unary(op) => unary(op, s),
-        Command::PriceOracle1 => leaf(tokens::PRICE_ORACLE_1, Terminal::PriceOracle1, s),
-        Command::PriceOracle1W => leaf(tokens::PRICE_ORACLE_1W, Terminal::PriceOracle1W, s),
-        Command::Compare(op) => comparison(op, s),
+    match byte {
+        1 => index(8, 0, 1, length, s),
+        2 => index(0, 0, 1, length, s),
+        3 => index(0, 2, 1, length, s),
+        4 => index(0, 2, 1, length, s),
+        5 => index(0, 2, 7, length, s),
+        6 => index(0, 2, 8, length, s),
+        16 => leaf(8, 1, Terminal::Other, length, s),
+        17 => lookup(0, 5, length, s),
+        18 => lookup(1, 4, length, s),
+        19 => lookup(1, 4, length, s),
+        20 => lookup(1, 8, length, s),
+        21 => lookup(1, 8, length, s),
+        22 => operation(2, 4, length, s),
+        23 => operation(2, 4, length, s),
+        24 => operation(2, 4, length, s),
+        25 => operation(2, 5, length, s),
+        26 => operation(2, 5, length, s),
+        27 => operation(2, 1, length, s),
+        28 => operation(2, 1, length, s),
+        29 => operation(2, 1, length, s),
+        30 => operation(1, 1, length, s),
+        31 => operation(1, 4, length, s),
+        32 => leaf(40, 10, Terminal::PriceOracle1, length, s),
+        33 => leaf(40, 13, Terminal::PriceOracle1W, length, s),
+        48 => comparison(1, length, s),
+        49 => comparison(1, length, s),
+        50 => comparison(1, length, s),
+        51 => comparison(1, length, s),
+        52 => comparison(1, length, s),
+        _ => Stepped::Failed,
     }
 }

@@ -8,6 +8,7 @@ pub judge-spec : {M : Type 1} → statement M
 judge-spec =
     tie.close
     (tie.spec
+    (λ c. search needs)
     (λ c. rw (lt-leb _ _ (c .if1 .taken)))
     (λ c. search needs)
     (λ c. search needs)

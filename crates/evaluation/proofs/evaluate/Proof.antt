@@ -10,8 +10,11 @@ use Rattle.semantics.specs.declared.Checked.{Checked}
 use Rattle.semantics.specs.Check.{checked}
 use Rattle.semantics.specs.Evaluate.{Lent}
 use Rattle.amounts.specs.Lists.{envOf}
+use Rattle.summary.specs.declared.Summary.{Summary}
+use Rattle.condition.specs.declared.Examined.{Examined}
+use Rattle.condition.specs.Walk.{examined}
 use Rattle.condition.proofs.Onward.{few-oracles}
-use Rattle.evaluation.proofs.Calls.{answers, bounded, refused-amounts, refused-buffer, refused-first, refused-witness}
+use Rattle.evaluation.proofs.Calls.{answers, bounded, passed-on, refused-amounts, refused-buffer, refused-first, refused-on, refused-witness}
 use Rattle.evaluation.proofs.evaluate.Statement.{statement}
 use Rattle.evaluation.proofs.evaluate.Tie as tie
 
@@ -31,9 +34,15 @@ begin m = m .before .before .before .before .before .before .before .before .bef
 bytes : (m : tie.After-amounts-sound) → Bytes (begin m .args .code .now)
 bytes m = all-of (λ x. x < 256) (begin m .args .code .now) 0 (λ i. m .before .before .before .before .before .before .before .before .before .before .before .before .before .before .before .before .shared-slice-known .given i .fits)
 
--- what Check answers
-passes : (m : tie.After-amounts-sound) → checked (begin m .args .code .now) ≡ Checked.Passed (m .before .before .tokens .given .0 .0) (m .before .before .tokens .given .0 .1 .0)
-passes m = sym (m .before .before .before .before .check .ensures) ∙ m .before .before .tokens .given .1
+-- what is known of the code, and what Check tells of it
+abbrev last : tie.After-amounts-sound → Summary
+last m = m .before .before .s .given .0 .0
+
+knows : (m : tie.After-amounts-sound) → examined (begin m .args .code .now) ≡ Examined.Passed (last m)
+knows m = sym (m .before .before .before .before .examine .ensures) ∙ m .before .before .s .given .1
+
+passes : (m : tie.After-amounts-sound) → checked (begin m .args .code .now) ≡ Checked.Passed (last m .tokens) (last m .oracles)
+passes m = passed-on (begin m .args .code .now) (last m) (knows m)
 
 returns : tie.Need-returns
 returns c =
@@ -48,26 +57,26 @@ returns-2 c =
 
 returns-3 : tie.Need-returns-3
 returns-3 c =
-    let m = c .before .before .before .before .before in
-    let amounts = sym (m .amounts-sound .ensures) ∙ not-false _ (c .before .before .before .before .if1 .left) in
-    let ends = sym (c .before .before .before .ends-sound .ensures) ∙ not-false _ (c .before .before .if2 .left) in
+    let m = c .before .before .before .before .before .before in
+    let amounts = sym (m .amounts-sound .ensures) ∙ not-false _ (c .before .before .before .before .before .if1 .left) in
+    let ends = sym (c .before .before .before .before .ends-sound .ensures) ∙ not-false _ (c .before .before .before .if2 .left) in
     rw (c .refused4 .ensures) (refused-buffer (begin m .args .code .now) (bytes m) (lent (begin m)) _ _ (passes m) amounts ends (c .before .if3 .taken))
 
 run-passed-requires : tie.Need-run-passed-requires
 run-passed-requires c κs =
-    let m = c .before .before .before .before .before in
-    (sym (c .before .before .before .ends-sound .ensures) ∙ not-false _ (c .before .before .if2 .left), bounded (begin m .args .code .now) _ _ _ (passes m) (c .before .if3 .left))
+    let m = c .before .before .before .before .before .before in
+    (sym (c .before .before .before .before .ends-sound .ensures) ∙ not-false _ (c .before .before .before .if2 .left), bounded (begin m .args .code .now) (last m) _ (knows m) (c .before .if3 .left))
 
 returns-4 : tie.Need-returns-4
 returns-4 c =
     let s = c .before .before .before .before .before .before .before .before .before .before .before .before .before .before .before .before .before in
-    rw (c .refused .ensures) (refused-first (s .args .code .now) (lent s) _ (sym (c .before .before .before .before .check .ensures) ∙ c .before .before .r .given .1))
+    rw (c .refused .ensures) (refused-first (s .args .code .now) (lent s) _ (refused-on (s .args .code .now) _ (sym (c .before .before .before .before .examine .ensures) ∙ c .before .before .r .given .1)))
 
 returns-5 : tie.Need-returns-5
 returns-5 c =
-    let m = c .before .before .before .before .before .before .before .before in
-    let amounts = sym (m .amounts-sound .ensures) ∙ not-false _ (c .before .before .before .before .before .before .before .if1 .left) in
-    let ends = sym (c .before .before .before .before .before .before .ends-sound .ensures) ∙ not-false _ (c .before .before .before .before .before .if2 .left) in
+    let m = c .before .before .before .before .before .before .before .before .before in
+    let amounts = sym (m .amounts-sound .ensures) ∙ not-false _ (c .before .before .before .before .before .before .before .before .if1 .left) in
+    let ends = sym (c .before .before .before .before .before .before .before .ends-sound .ensures) ∙ not-false _ (c .before .before .before .before .before .before .if2 .left) in
     answers (begin m .args .code .now) (bytes m) (lent (begin m)) _ _ (passes m) amounts ends (c .before .before .before .before .if3 .left) _ (c .before .before .run-passed .ensures)
 
 pub evaluate-spec : {M : Type 1} → statement M
@@ -84,7 +93,7 @@ evaluate-spec =
     (λ c κs. search needs)
     (λ c κs. search needs)
     returns-2
-    (λ c. omega (arith, few-oracles _ _ _ (passes (c .before .before .before))))
+    (λ c. omega (arith, few-oracles _ _ _ (passes (c .before .before .before .before))))
     (λ c κs. search needs)
     returns-3
     run-passed-requires
