@@ -3,4 +3,4 @@ pub mod Steps
 pub mod Trees
 pub mod Checks
 pub mod Onward
-pub mod Ahead
+pub mod Position

@@ -23,51 +23,44 @@ use Rattle.summary.proofs.Bounds.{modest, oracles-grow, some-token}
 use Rattle.summary.proofs.Rows.{larger-most}
 use Rattle.condition.specs.declared.Examined.{Examined}
 use Rattle.condition.specs.declared.Walked.{Walked}
-use Rattle.condition.specs.Walk.{checkedAs, counts, ended, examined, judgedWalk, next, refusalOf, start, summaryStep, toldUnless, walked}
+use Rattle.condition.specs.Walk.{Passed, checkedAs, counts, ended, examined, judgedWalk, next, refusalOf, start, summaryStep, toldUnless, walked}
 use Rattle.condition.proofs.Checks.{checked-walk}
 use Rattle.condition.proofs.Steps.{walk-ends, walk-fails, walk-short, walk-takes, walkFrom}
 
 -- code that passes is what the walk comes to
-pub examined-passed : (c : List ℕ) (s : Summary) → examined c ≡ Examined.Passed s → (walked c ≡ Walked.Ended s) × (s .tokens ≤ maxTokens)
+pub passed : (c : List ℕ) (s : Summary) → examined c ≡ Examined.Passed s → Passed c (λ t. t ≡ s)
 unfolding examined
-examined-passed c s e = long (ltb maxCode (length c)) e
+passed c s e = long (ltb maxCode (length c)) e
   where
     ruled : (r : Option Refusal) (t : Summary) → toldUnless (firstOf (r ∷ [])) t ≡ Examined.Passed s → t ≡ s
     ruled none t q = cc
     ruled (some r) t q = absurd (let z : _≡_ {A = ℕ} 0 1 = cc in omega arith)
 
     few : (b : Bool) (t : Summary) → walked c ≡ Walked.Ended t → leb (t .tokens) maxTokens ≡ b
-        → toldUnless (firstOf (unless b Refusal.TooManyTokens ∷ refusalOf (t .rule) ∷ [])) t ≡ Examined.Passed s
-        → (walked c ≡ Walked.Ended s) × (s .tokens ≤ maxTokens)
-    few true t w b q = let k = ruled (refusalOf (t .rule)) t q in (w ∙ ap Walked.Ended k, rw (← k) (leb-true (t .tokens) maxTokens b))
+        → toldUnless (firstOf (unless b Refusal.TooManyTokens ∷ refusalOf (t .rule) ∷ [])) t ≡ Examined.Passed s → Passed c (λ t. t ≡ s)
+    few true t w b q = record { last = t; walk = w; few = leb-true (t .tokens) maxTokens b; known = ruled (refusalOf (t .rule)) t q }
     few false t w b q = absurd (let z : _≡_ {A = ℕ} 0 1 = cc in omega arith)
 
-    ends : (w : Walked) → walked c ≡ w → judgedWalk w ≡ Examined.Passed s → (walked c ≡ Walked.Ended s) × (s .tokens ≤ maxTokens)
+    ends : (w : Walked) → walked c ≡ w → judgedWalk w ≡ Examined.Passed s → Passed c (λ t. t ≡ s)
     ends (Walked.Refused at) w q = absurd (let z : _≡_ {A = ℕ} 0 1 = cc in omega arith)
     ends (Walked.Ended t) w q = few (leb (t .tokens) maxTokens) t w refl q
 
-    long : (b : Bool) → cond b (Examined.Refused Refusal.CodeTooLong) (judgedWalk (walked c)) ≡ Examined.Passed s
-        → (walked c ≡ Walked.Ended s) × (s .tokens ≤ maxTokens)
+    long : (b : Bool) → cond b (Examined.Refused Refusal.CodeTooLong) (judgedWalk (walked c)) ≡ Examined.Passed s → Passed c (λ t. t ≡ s)
     long true q = absurd (let z : _≡_ {A = ℕ} 0 1 = cc in omega arith)
     long false q = ends (walked c) refl q
 
--- what Check passes on is told of it
-pub record Accepted (c : List ℕ) (tokens oracles : ℕ) : Type 0 where
-  pub last : Summary
-  pub walk : walked c ≡ Walked.Ended last
-  pub tokens-are : last .tokens ≡ tokens
-  pub oracles-are : last .oracles ≡ oracles
-  pub few : tokens ≤ maxTokens
+-- what is known of code that passes is what Check tells of it
+pub told : (c : List ℕ) (x : Examined) → examined c ≡ x → checked c ≡ checkedAs x
+told c x e = rw (checked-walk c, e)
 
-pub accepted : (c : List ℕ) (n m : ℕ) → checked c ≡ Checked.Passed n m → Accepted c n m
-accepted c n m e = go (examined c) refl (sym (checked-walk c) ∙ e)
-  where
-    go : (x : Examined) → examined c ≡ x → checkedAs x ≡ Checked.Passed n m → Accepted c n m
-    go (Examined.Passed s) q k =
-        let p = examined-passed c s q in
-        let t : s .tokens ≡ n = cc in
-        record { last = s; walk = p .0; tokens-are = t; oracles-are = cc; few = omega (arith, p .1) }
-    go (Examined.Refused r) q k = absurd (let z : _≡_ {A = ℕ} 0 1 = cc in omega arith)
+-- what holds of its summary holds of the code
+pub passed-with : {Known : Summary → Type 0} (c : List ℕ) (s : Summary) → examined c ≡ Examined.Passed s → Known s → Passed c Known
+passed-with {Known = Known} c s e k =
+    let p = passed c s e in record { last = p .last; walk = p .walk; few = p .few; known = rw (p .known) k }
+
+-- what holds of all summaries like that holds of it too
+pub passed-as : {Known Other : Summary → Type 0} {c : List ℕ} → ((s : Summary) → Known s → Other s) → Passed c Known → Passed c Other
+passed-as f p = record { last = p .last; walk = p .walk; few = p .few; known = f (p .last) (p .known) }
 
 -- what was met up to a position is no more than in all
 pub record SoFar (s t : Summary) : Type 0 where
@@ -152,14 +145,10 @@ module _ (c : List ℕ) (at : ℕ) (s t : Summary) (ends : walkFrom c at s ≡ W
       wide true e = meets (leb-true width (length c - at - 1) e) need refl
       wide false e = absurd (refuted (walk-short c at i s z (omega (arith, leb-false width (length c - at - 1) e))))
 
--- no more oracle terminals than tokens
-pub accepted-oracles : (c : List ℕ) (n m : ℕ) → Accepted c n m → m ≤ n
+-- no more oracle terminals than tokens, so no more than a condition may have tokens
+pub few-oracles : {Known : Summary → Type 0} (c : List ℕ) (p : Passed c Known) → p .last .oracles ≤ maxTokens
 unfolding walked
-accepted-oracles c n m a = let f = so-far c 0 start (a .last) (a .walk) in omega (arith, f .rest, a .tokens-are, a .oracles-are)
-
--- so no more than a condition may have tokens
-pub few-oracles : (c : List ℕ) (t o : ℕ) → checked c ≡ Checked.Passed t o → o ≤ maxTokens
-few-oracles c t o e = let a = accepted c t o e in omega (arith, accepted-oracles c t o a, a .few)
+few-oracles c p = let f = so-far c 0 start (p .last) (p .walk) in omega (arith, f .rest, p .few)
 
 -- each operand that waits has a token, and so has the comparison
 waits-in-tokens : (ns : List Instruction) (at : ℕ) (s t : Summary) → s .values + s .indexes ≤ s .most → s .most + s .conditions ≤ s .tokens
@@ -192,6 +181,6 @@ waits-in-tokens (n ∷ ns) at s t w m e =
         let q : Walked.Refused at ≡ Walked.Ended t = rw (refused-stays counts (λ d m r. next d r) ns at) at e in
         absurd (let z : _≡_ {A = ℕ} 0 1 = cc in omega arith)
 
-pub few-wait : (c : List ℕ) (t : Summary) → walked c ≡ Walked.Ended t → t .most < t .tokens
+pub few-wait : {Known : Summary → Type 0} (c : List ℕ) (p : Passed c Known) → p .last .most < maxTokens
 unfolding walked
-few-wait c t e = waits-in-tokens (instructions c) 0 start t (omega arith) (omega arith) e
+few-wait c p = omega (arith, waits-in-tokens (instructions c) 0 start (p .last) (omega arith) (omega arith) (p .walk), p .few)

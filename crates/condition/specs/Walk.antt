@@ -33,11 +33,12 @@ start = record { bytes = 0; values = 0; indexes = 0; conditions = 0; tokens = 0;
 unfoldable pub walked : List ℕ → Walked
 walked c = ended (fold summaryStep (Walk.going 0 start) (instructions c))
 
--- code that is well-formed, and room for as many of something as it has tokens
-pub record Coded (code : List ℕ) (room : ℕ) : Type 0 where
+-- code that Check lets pass, where something holds of what is known of it
+pub record Passed (code : List ℕ) (Known : Summary → Type 0) : Type 0 where
   pub last : Summary
   pub walk : walked code ≡ Walked.Ended last
-  pub fits : last .tokens ≤ room
+  pub few : last .tokens ≤ maxTokens
+  pub known : Known last
 
 -- the refusal that the oracle rule comes to
 abbrev pub refusalOf : Rule → Option Refusal
