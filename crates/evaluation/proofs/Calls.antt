@@ -14,7 +14,7 @@ use Rattle.semantics.specs.declared.Checked.{Checked}
 use Rattle.semantics.specs.declared.Refusal.{Refusal}
 use Rattle.semantics.specs.Check.{checked, condition, firstOf, unless}
 use Rattle.semantics.specs.Evaluate.{Evaluation, Lent, ended, endsSound, envSound, evaluated, evaluatedTree, initial, refusedCall, unlessRefused}
-use Rattle.semantics.specs.Evaluation.{evalArith}
+use Rattle.semantics.specs.Evaluation.{evalArith, popping}
 use Rattle.semantics.specs.Parse.{fold, instructions}
 use Rattle.semantics.proofs.Passing.{Passed, answered-refused, passed}
 use Rattle.semantics.proofs.Run.{run-code}
@@ -22,9 +22,8 @@ use Rattle.summary.specs.declared.Summary.{Summary}
 use Rattle.condition.specs.declared.Examined.{Examined}
 use Rattle.condition.specs.Walk.{examined}
 use Rattle.condition.proofs.Checks.{checked-walk}
-use Rattle.condition.proofs.Onward.{examined-passed, few-wait}
 use Rattle.witness.specs.Elements.{leftOf, stateOf}
-use Rattle.evaluation.specs.Run.{Answers, Bounded, Fits}
+use Rattle.evaluation.specs.Run.{Answers}
 use Rattle.semantics.specs.Run.{Run, runStep}
 
 -- before the first step
@@ -49,7 +48,7 @@ module _ (b : List ℕ) (bytes : Bytes b) (l : Lent) (n m : ℕ) (passes : check
   abbrev guarded : Bool → Bool → Bool → Evaluation
   guarded amounts ends room =
       unlessRefused (firstOf (unless amounts Refusal.AmountsUnsound ∷ unless ends Refusal.WitnessUnsound ∷ unless room Refusal.BufferTooShort ∷ [])) l
-      (ended (l .buffer) (evalArith (l .env) (known .tree) (initial l)))
+      (ended (l .buffer) (evalArith popping (l .env) (known .tree) (initial l)))
 
   guards : evaluated b l ≡ guarded (envSound (l .env)) (endsSound 0 (length (l .witness)) (l .ends)) sized
   unfolding evaluated evaluatedTree
@@ -66,27 +65,9 @@ module _ (b : List ℕ) (bytes : Bytes b) (l : Lent) (n m : ℕ) (passes : check
     refused-buffer h = rw (guards, p, q, lt-leb (112 * m) (length (l .buffer)) h)
 
     pub answers : 112 * m ≤ length (l .buffer) → (e : Evaluation)
-        → Answers (l .buffer) (fold (runStep (l .env)) (Run.going [] [] (stateOf (l .witness) (l .ends) (l .buffer) (length (l .ends)) 0)) (instructions b)) e
+        → Answers (l .buffer) (fold (runStep popping (l .env)) (Run.going [] [] (stateOf (l .witness) (l .ends) (l .buffer) (length (l .ends)) 0)) (instructions b)) e
         → e ≡ evaluated b l
     answers h e r =
         let k = known .told in
-        let s = rw (initial-state l, ← k .coded, run-code (l .env) (known .tree) (k .encodable) (initial l)) at r in
+        let s = rw (initial-state l, ← k .coded, run-code popping (l .env) (known .tree) (k .encodable) (initial l)) at r in
         rw (guards, p, q, le-leb (112 * m) (length (l .buffer)) h) s
-
--- what is known of code that passes is what Check tells of it
-pub passed-on : (b : List ℕ) (s : Summary) → examined b ≡ Examined.Passed s → checked b ≡ Checked.Passed (s .tokens) (s .oracles)
-passed-on b s e = rw (checked-walk b, e)
-
-pub refused-on : (b : List ℕ) (r : Refusal) → examined b ≡ Examined.Refused r → checked b ≡ Checked.Refused r
-refused-on b r e = rw (checked-walk b, e)
-
--- what the run needs of it
-pub bounded : (b : List ℕ) (s : Summary) (size : ℕ) → examined b ≡ Examined.Passed s → 112 * s .oracles ≤ size → Bounded b (s .most) size
-bounded b s size e h =
-    let p = examined-passed b s e in
-    record { last = s; walk = p .0; most-is = refl; few = omega (arith, few-wait b s (p .0), p .1); room = h }
-
--- arrays of more operands are enough
-pub bounded-fits : {code : List ℕ} {most : ℕ} {values indexes : List ℤ} {out : List ℕ} → Bounded code most (length out)
-    → most < length values → most < length indexes → Fits code values indexes out
-bounded-fits b v i = record { last = b .last; walk = b .walk; values-fit = rw (b .most-is) v; indexes-fit = rw (b .most-is) i; room = b .room }

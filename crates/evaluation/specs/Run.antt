@@ -6,17 +6,15 @@ use mathlib.Core.List.{List}
 use lib.IntN.{ℤ}
 use lib.ListN.{length}
 use Rattle.semantics.specs.declared.Command.{Command}
-use Rattle.semantics.specs.Code.{commandRow, maxTokens}
+use Rattle.semantics.specs.Code.{commandRow}
 use Rattle.semantics.specs.Evaluate.{Evaluation, ended}
 use Rattle.summary.specs.declared.Summary.{Summary}
-use Rattle.condition.specs.declared.Walked.{Walked}
-use Rattle.condition.specs.Walk.{walked}
 use Rattle.semantics.specs.declared.Value.{Value}
-use Rattle.semantics.specs.Evaluation.{Env, State, oracle, outcome}
+use Rattle.semantics.specs.Evaluation.{Env, State}
 use Rattle.semantics.specs.Parse.{after, commandAt, operandsAt}
-use Rattle.semantics.specs.Run.{Run, act, pushValue}
+use Rattle.semantics.specs.Run.{Move, Run, fetched, move, onValue}
 use Rattle.stacks.specs.declared.Turn.{Turn}
-use Rattle.stacks.specs.Stacks.{Ready, runOf, waiting}
+use Rattle.stacks.specs.Stacks.{Ready, moveOf, waiting}
 use Rattle.witness.specs.Oracle.{keyAt, timeAt}
 use Rattle.evaluation.specs.declared.run.Next.{Next}
 use Rattle.evaluation.specs.declared.run.Spot.{Spot}
@@ -41,43 +39,37 @@ pub record Fetches (code : List ℕ) (values indexes : List ℤ) (s : Spot) : Ty
   pub operands : s .at + 1 + commandRow (commandAt code (s .at)) .width ≤ length code
   pub ready : Ready (commandAt code (s .at)) (s .values) (s .indexes) values indexes
 
--- what it does, but for an oracle terminal, whose price is still to be pushed
-abbrev pub Fetched : Env → List ℕ → List ℤ → List ℤ → Spot → List ℤ → List ℤ → Next → Type 0
-Fetched env code values indexes s values′ indexes′ (Next.Command t) =
-    (t .at ≡ after code (s .at))
-    × ((st : State) → runOf values′ indexes′ st (Turn.On (t .values) (t .indexes)) ≡ act env (commandAt code (s .at)) (operandsAt code (s .at)) (waiting values (s .values)) (waiting indexes (s .indexes)) st)
-Fetched env code values indexes s values′ indexes′ (Next.Oracle t) =
-    (t .at ≡ s .at + 1) × (t .values ≡ s .values) × (t .indexes ≡ s .indexes) × Oracular (commandAt code (s .at))
-    × ((st : State) → pushValue (waiting values′ (t .values)) (waiting indexes′ (t .indexes)) (oracle (keyAt code (t .at)) (timeAt code (t .at)) st) ≡ act env (commandAt code (s .at)) (operandsAt code (s .at)) (waiting values (s .values)) (waiting indexes (s .indexes)) st)
-Fetched env code values indexes s values′ indexes′ (Next.Ended r) =
-    (st : State) → runOf values′ indexes′ st (Turn.Ended r) ≡ act env (commandAt code (s .at)) (operandsAt code (s .at)) (waiting values (s .values)) (waiting indexes (s .indexes)) st
+-- what is next, as what the machine of semantics/specs/Run.antt does with the operands that wait
+abbrev pub nextMove : List ℕ → List ℤ → List ℤ → Next → Move
+nextMove code values indexes (Next.Command t) = Move.on (waiting values (t .values)) (waiting indexes (t .indexes))
+nextMove code values indexes (Next.Oracle t) = Move.ask (keyAt code (t .at)) (timeAt code (t .at)) (waiting values (t .values)) (waiting indexes (t .indexes))
+nextMove code values indexes (Next.Ended r) = Move.ended r
+
+-- and where it stands
+abbrev pub NextAt : List ℕ → Spot → Next → Type 0
+NextAt code s (Next.Command t) = t .at ≡ after code (s .at)
+NextAt code s (Next.Oracle t) = (t .at ≡ s .at + 1) × (t .values ≡ s .values) × Oracular (commandAt code (s .at))
+NextAt code s (Next.Ended r) = Unit {0}
+
+-- what it does, a lookup made; the price of an oracle terminal is still to be pushed
+pub record Fetched (env : Env) (code : List ℕ) (values indexes : List ℤ) (s : Spot) (values′ indexes′ : List ℤ) (r : Next) : Type 0 where
+  pub at : NextAt code s r
+  pub moves : nextMove code values′ indexes′ r ≡ fetched env (move (env .current) (commandAt code (s .at)) (operandsAt code (s .at)) (waiting values (s .values)) (waiting indexes (s .indexes)))
 
 -- a price is pushed, and the next command stands after key and time
 abbrev pub Pushed : Spot → List ℤ → List ℤ → Value → Next → Type 0
 Pushed s values values′ price (Next.Command t) =
     (t .at ≡ s .at + 40)
-    × ((indexes : List ℤ) (st : State) → runOf values′ indexes st (Turn.On (t .values) (t .indexes)) ≡ pushValue (waiting values (s .values)) (waiting indexes (s .indexes)) (outcome price st))
+    × ((indexes : List ℤ) → moveOf values′ indexes (Turn.On (t .values) (t .indexes)) ≡ onValue (waiting values (s .values)) (waiting indexes (s .indexes)) price)
 Pushed s values values′ price (Next.Oracle t) = ⊥
 Pushed s values values′ price (Next.Ended r) =
-    (indexes : List ℤ) (st : State) → runOf values′ indexes st (Turn.Ended r) ≡ pushValue (waiting values (s .values)) (waiting indexes (s .indexes)) (outcome price st)
+    (indexes : List ℤ) → moveOf values′ indexes (Turn.Ended r) ≡ onValue (waiting values (s .values)) (waiting indexes (s .indexes)) price
 
--- code that Check let pass, with room for what waits and for its checks
-pub record Fits (code : List ℕ) (values indexes : List ℤ) (out : List ℕ) : Type 0 where
-  pub last : Summary
-  pub walk : walked code ≡ Walked.Ended last
-  pub values-fit : last .most < length values
-  pub indexes-fit : last .most < length indexes
-  pub room : 112 * last .oracles ≤ length out
-
--- the same, where at most so many wait
-pub record Bounded (code : List ℕ) (most size : ℕ) : Type 0 where
-  pub last : Summary
-  pub walk : walked code ≡ Walked.Ended last
-  pub most-is : last .most ≡ most
-  pub few : most < maxTokens
-  pub room : 112 * last .oracles ≤ size
+-- there is room for the operands that wait, and for the checks
+abbrev pub Room : ℕ → ℕ → ℕ → Summary → Type 0
+Room values indexes size s = (s .most < values) × (s .most < indexes) × (112 * s .oracles ≤ size)
 
 -- what a run that has stopped answers
-abbrev pub Answers : List ℕ → Run → Evaluation → Type 0
+abbrev pub Answers : List ℕ → Run State → Evaluation → Type 0
 Answers old (Run.going vs is st) e = ⊥
 Answers old (Run.stopped o) e = e ≡ ended old o

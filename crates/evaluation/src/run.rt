@@ -14,16 +14,16 @@ ghost use mathlib.Core.List.{List, []};
 ghost use Prim.Native.Nat.{ℕ, _+_, _<_, _^_};
 ghost use lib.IntN.{ℤ};
 ghost use lib.ListN.{length};
-ghost use Rattle.index64.specs.Steps.{stepped};
 ghost use Rattle.semantics.specs.declared.Command.{Command};
-ghost use Rattle.semantics.specs.Evaluation.{State, lookedUp, outcome};
+ghost use Rattle.semantics.specs.Evaluation.{amount, amounts, popping};
 ghost use Rattle.semantics.specs.Evaluate.{endsSound};
 ghost use Rattle.semantics.specs.Parse.{fold, instructions};
+ghost use Rattle.condition.specs.Walk.{Passed};
 ghost use Rattle.amounts.specs.Lists.{envOf};
 ghost use Rattle.witness.specs.Elements.{stateOf};
-ghost use Rattle.evaluation.specs.Run.{Answers, Fetched, Fetches, Fits, Pushed, nextAfter, nextOf};
-ghost use Rattle.stacks.specs.Stacks.{runOf, waiting};
-ghost use Rattle.semantics.specs.Run.{Run, pushValue, runStep};
+ghost use Rattle.evaluation.specs.Run.{Answers, Fetched, Fetches, Pushed, Room, nextAfter, nextOf};
+ghost use Rattle.stacks.specs.Stacks.{moveOf, waiting};
+ghost use Rattle.semantics.specs.Run.{Run, onValue, runStep};
 
 // Key and time of an oracle terminal.
 const ORACLE_BYTES: usize = 40;
@@ -48,10 +48,10 @@ enum Step {
     Ended(Verdict),
 }
 
-// The amount of a list where an index step led: it is pushed.
+// The amount of a list at an index: it is pushed.
 fn step_lookup(
     list: AmountList,
-    step: index64::Step,
+    index: i64,
     spent: &[u64],
     spent_marks: &[u8],
     outputs: &[u64],
@@ -65,7 +65,7 @@ fn step_lookup(
     indexes: usize,
 ) -> Turn
     requires { ⌜ values < length (now vals) ⌝ }
-    ensures { λ r. ⌜ ((current : ℕ) (idxs : List ℤ) (st : State) → runOf (now (vals .exit)) idxs st r ≡ pushValue (waiting (now (vals .entry)) values) (waiting idxs indexes) (outcome (lookedUp (envOf (now (spent .entry)) (now («spent_marks» .entry)) (now (outputs .entry)) (now («output_marks» .entry)) (now (issued .entry)) (now («issued_marks» .entry)) (now (reissued .entry)) (now («reissued_marks» .entry)) current) list (stepped step)) st)) ⌝ }
+    ensures { λ r. ⌜ ((current : ℕ) (idxs : List ℤ) → moveOf (now (vals .exit)) idxs r ≡ onValue (waiting (now (vals .entry)) values) (waiting idxs indexes) (amount (amounts (envOf (now (spent .entry)) (now («spent_marks» .entry)) (now (outputs .entry)) (now («output_marks» .entry)) (now (issued .entry)) (now («issued_marks» .entry)) (now (reissued .entry)) (now («reissued_marks» .entry)) current) list) list index)) ⌝ }
 {
     let v = amounts::looked_up(
         list,
@@ -77,7 +77,7 @@ fn step_lookup(
         issued_marks,
         reissued,
         reissued_marks,
-        step,
+        index,
     );
     push_value(vals, v, values, indexes)
 }
@@ -131,17 +131,26 @@ fn fetch(
     requires { ⌜ Fetches (now code) (now vals) (now idxs) spot ⌝ }
     ensures { λ r. ⌜ Fetched (envOf (now (spent .entry)) (now («spent_marks» .entry)) (now (outputs .entry)) (now («output_marks» .entry)) (now (issued .entry)) (now («issued_marks» .entry)) (now (reissued .entry)) (now («reissued_marks» .entry)) current) (now (code .entry)) (now (vals .entry)) (now (idxs .entry)) spot (now (vals .exit)) (now (idxs .exit)) r ⌝ }
 {
-    let at = spot.at;
     let values = spot.values;
     let indexes = spot.indexes;
-    let command = commands::command_of(code[at]);
-    let after = at + 1 + commands::width_of(command);
-    match stacks::step(command, code, at + 1, current, vals, idxs, values, indexes) {
-        Effect::Turned(turn) => onward(turn, after),
-        Effect::Amount(list, step, rest) => {
+    let cursor = commands::next(code, spot.at);
+    let command = cursor.command;
+    let operands = cursor.operands;
+    match stacks::step(
+        command,
+        code,
+        operands,
+        current,
+        vals,
+        idxs,
+        values,
+        indexes,
+    ) {
+        Effect::Turned(turn) => onward(turn, cursor.next),
+        Effect::Amount(list, index, rest) => {
             let turn = step_lookup(
                 list,
-                step,
+                index,
                 spent,
                 spent_marks,
                 outputs,
@@ -154,10 +163,10 @@ fn fetch(
                 values,
                 rest,
             );
-            onward(turn, after)
+            onward(turn, cursor.next)
         }
         Effect::Oracle => Next::Oracle(Spot {
-            at: at + 1,
+            at: operands,
             values,
             indexes,
         }),
@@ -182,8 +191,8 @@ pub fn run(
     vals: &mut [i64],
     idxs: &mut [i64],
 ) -> Evaluated
-    requires { ⌜ (endsSound 0 (length (now witness)) (now ends) ≡ true) × Fits (now code) (now vals) (now idxs) (now out) ⌝ }
-    ensures { λ r. ⌜ Answers (now (out .entry)) (fold (runStep (envOf (now (spent .entry)) (now («spent_marks» .entry)) (now (outputs .entry)) (now («output_marks» .entry)) (now (issued .entry)) (now («issued_marks» .entry)) (now (reissued .entry)) (now («reissued_marks» .entry)) current)) (Run.going [] [] (stateOf (now (witness .entry)) (now (ends .entry)) (now (out .entry)) (length (now (ends .entry))) 0)) (instructions (now (code .entry)))) (record { answer = r; buffer = now (out .exit) }) ⌝ }
+    requires { ⌜ (endsSound 0 (length (now witness)) (now ends) ≡ true) × Passed (now code) (Room (length (now vals)) (length (now idxs)) (length (now out))) ⌝ }
+    ensures { λ r. ⌜ Answers (now (out .entry)) (fold (runStep popping (envOf (now (spent .entry)) (now («spent_marks» .entry)) (now (outputs .entry)) (now («output_marks» .entry)) (now (issued .entry)) (now («issued_marks» .entry)) (now (reissued .entry)) (now («reissued_marks» .entry)) current)) (Run.going [] [] (stateOf (now (witness .entry)) (now (ends .entry)) (now (out .entry)) (length (now (ends .entry))) 0)) (instructions (now (code .entry)))) (record { answer = r; buffer = now (out .exit) }) ⌝ }
 {
     let mut w = Witness {
         left: ends.len(),

@@ -9,7 +9,7 @@ use Rattle.semantics.specs.Operations.{binRow, unRow}
 use Rattle.semantics.specs.Check.{firstOf, judged, passedUnless, unless}
 use Rattle.semantics.specs.Evaluate.{Lent, evaluatedBy, evaluatedTree}
 use Rattle.semantics.specs.Code.{maxTokens}
-use Rattle.semantics.specs.Evaluation.{Env, State, binaryStep, eval, evalArith, index, unaryStep}
+use Rattle.semantics.specs.Evaluation.{Env, Terminals, binaryStep, eval, evalArith, index, unaryStep}
 use Rattle.semantics.specs.Oracle.{oracleRule, oracles, rule, terminals}
 use Rattle.semantics.specs.FromTokens.{lookupExpr}
 use Rattle.semantics.specs.Refusals.{Refusal}
@@ -71,13 +71,14 @@ pub form-canon : (c : Arith) → form (canon c) ≡ form c
 unfolding form canon
 form-canon (Arith.Compare o x y) = rw (exprForm-canon x, exprForm-canon y)
 
-eval-canon : (env : Env) (e : Expr) → eval env (canonExpr e) ≡ eval env e
-unfolding eval index
-eval-canon env = canon-alike (eval env) refl binaryStep (λ o x y. refl) unaryStep (λ o x. refl)
+module _ {S : Type 0} (t : Terminals S) (env : Env) where
+  eval-canon : (e : Expr) → eval t env (canonExpr e) ≡ eval t env e
+  unfolding eval index
+  eval-canon = canon-alike (eval t env) refl binaryStep (λ o x y. refl) unaryStep (λ o x. refl)
 
-pub evalArith-canon : (env : Env) (c : Arith) (st : State) → evalArith env (canon c) st ≡ evalArith env c st
-unfolding evalArith canon
-evalArith-canon env (Arith.Compare o x y) st = rw (eval-canon env x, eval-canon env y)
+  pub evalArith-canon : (c : Arith) (st : S) → evalArith t env (canon c) st ≡ evalArith t env c st
+  unfolding evalArith canon
+  evalArith-canon (Arith.Compare o x y) st = rw (eval-canon x, eval-canon y)
 
 pub evaluatedTree-canon : (c : Arith) (l : Lent) → evaluatedTree (canon c) l ≡ evaluatedTree c l
 unfolding evaluatedTree

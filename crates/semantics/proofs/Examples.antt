@@ -12,7 +12,7 @@ use Rattle.semantics.specs.Check.{Checked, checked, condition, judged}
 use Rattle.semantics.specs.Code.{code, commandOf, exprCode, idxCode}
 use Rattle.semantics.specs.Decode.{Reading, decode}
 use Rattle.semantics.specs.Evaluate.{Verdict, evaluated, evaluatedTree, initial}
-use Rattle.semantics.specs.Evaluation.{Amounts, Env, Outcome, amount, err, eval, evalArith, index, ok, oracle}
+use Rattle.semantics.specs.Evaluation.{Amounts, Env, Outcome, amount, State, err, eval, evalArith, index, ok, oracle, popping}
 use Rattle.semantics.specs.FromTokens.{comparison, exprFromTokens, exprWithin, fromTokens, head, headForm, idxFromTokens, idxHead, idxHeadForm, idxWithin}
 use Rattle.semantics.specs.Oracle.{oracleRule, oracles, terminals}
 use Rattle.semantics.specs.Parse.{instructions, parse}
@@ -38,12 +38,12 @@ abbrev const : ℤ → Expr
 const z = Expr.Const (bitsOf z)
 
 -- of a value expression, at index 0: the value, or the refusal
-abbrev shown : Outcome ℤ → List ℤ
+abbrev shown : Outcome State ℤ → List ℤ
 shown (ok z st) = z ∷ []
 shown (err r st) = refused r
 
 abbrev valueOf : Expr → List ℤ
-valueOf e = shown (eval (env 0) e (record { checks = 0; written = []; left = [] }))
+valueOf e = shown (eval popping (env 0) e (record { checks = 0; written = []; left = [] }))
 
 abbrev by : BinOp → ℤ → ℤ → List ℤ
 by o x y = valueOf (Expr.Binary o (const x) (const y))

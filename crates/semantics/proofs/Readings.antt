@@ -15,7 +15,7 @@ use Rattle.semantics.specs.Check.{Checked, checked, condition, judged}
 use Rattle.semantics.specs.Code.{code, commandOf, exprCode, idxCode}
 use Rattle.semantics.specs.Decode.{Decoded, Reading, decode, decoded}
 use Rattle.semantics.specs.Evaluate.{Evaluated, Evaluation, Verdict, evaluated, evaluatedTree, initial}
-use Rattle.semantics.specs.Evaluation.{Amounts, Env, Outcome, amount, err, eval, evalArith, index, ok, oracle}
+use Rattle.semantics.specs.Evaluation.{Amounts, Env, Outcome, amount, State, err, eval, evalArith, index, ok, oracle, popping}
 use Rattle.semantics.specs.FromTokens.{comparison, exprFromTokens, exprWithin, fromTokens, head, headForm, idxFromTokens, idxHead, idxHeadForm, idxWithin}
 use Rattle.semantics.specs.Operations.{cmpOps}
 use Rattle.semantics.specs.Oracle.{oracleRule, oracles, terminals}
@@ -139,12 +139,12 @@ abbrev decodedAnswer : Records → List ℕ
 decodedAnswer r = shownDecoded (decoded r [] .answer)
 
 -- what operations answer, as bits, or the refusal's number with its data
-abbrev shownValue : Outcome ℤ → List ℕ
+abbrev shownValue : Outcome State ℤ → List ℕ
 shownValue (ok z st) = bitsOf z ∷ []
 shownValue (err r st) = refused r
 
 abbrev valueOf : Env → Expr → List ℕ
-valueOf e x = shownValue (eval e x (record { checks = 0; written = []; left = [] }))
+valueOf e x = shownValue (eval popping e x (record { checks = 0; written = []; left = [] }))
 
 abbrev of : BinOp → ℕ → ℕ → List ℕ
 of o a b = valueOf env (Expr.Binary o (Expr.Const a) (Expr.Const b))

@@ -9,7 +9,7 @@ use lib.Dec.{eqb, leb}
 use Rattle.semantics.specs.Trees.{Arith}
 use Rattle.semantics.specs.Refusals.{Refusal}
 use Rattle.semantics.specs.Oracle.{oracles}
-use Rattle.semantics.specs.Evaluation.{Amounts, Env, State, Outcome, ok, err, evalArith}
+use Rattle.semantics.specs.Evaluation.{Amounts, Env, State, Outcome, ok, err, evalArith, popping}
 use Rattle.semantics.specs.Check.{firstOf, unless, Condition, condition}
 pub use Rattle.semantics.specs.declared.Verdict.{Verdict}
 pub use Rattle.semantics.specs.declared.Evaluated.{Evaluated}
@@ -58,7 +58,7 @@ pub record Evaluation : Type 0 where
   pub answer : Evaluated
   pub buffer : List ℕ
 
-abbrev pub ended : List ℕ → Outcome Bool → Evaluation
+abbrev pub ended : List ℕ → Outcome State Bool → Evaluation
 ended old (ok v st) =
     record { answer = record { verdict = Verdict.Is v; checks = st .checks; left = length (st .left) }; buffer = over (st .written) old }
 ended old (err r st) =
@@ -79,7 +79,7 @@ evaluatedTree a l =
     (firstOf
     (unless (envSound (l .env)) Refusal.AmountsUnsound ∷ unless (endsSound 0 (length (l .witness)) (l .ends)) Refusal.WitnessUnsound
     ∷ unless (leb (112 * oracles a) (length (l .buffer))) Refusal.BufferTooShort ∷ []))
-    l (ended (l .buffer) (evalArith (l .env) a (initial l)))
+    l (ended (l .buffer) (evalArith popping (l .env) a (initial l)))
 
 abbrev pub evaluatedBy : Condition → Lent → Evaluation
 evaluatedBy (Condition.refused r) l = refusedCall r l

@@ -52,37 +52,66 @@ amount a l (pos i) =
     (Value.Refused (listRow l .outside i (length (a .numbers))))
 amount a l (negsuc i) = Value.Refused Refusal.NegativeIndex
 
--- 41, by R-4: "when a value leaves that range or a divisor is 0"
-abbrev pub lookedUp : Env → AmountList → Option ℤ → Value
-lookedUp env l none = Value.Refused Refusal.IndexStep
-lookedUp env l (some i) = amount (amounts env l) l i
+-- what comes of a step that goes by a state: a value or a refusal, and the state then
+pub data Outcome (S A : Type 0) : Type 0 where
+  ok : A → S → Outcome S A
+  err : Refusal → S → Outcome S A
 
--- the number and the bytes of the checks so far, and the witness elements left, the top first
+abbrev pub onward : {S A B : Type 0} → Outcome S A → (A → S → Outcome S B) → Outcome S B
+onward (ok a st) f = f a st
+onward (err r st) f = err r st
+
+abbrev pub outcome : {S : Type 0} → Value → S → Outcome S ℤ
+outcome (Value.Number z) st = ok z st
+outcome (Value.Refused r) st = err r st
+
+-- What an evaluation does with its state: `read` is the state after a lookup at an index of the list l, whose amounts are a;
+-- `oracle` is what an oracle terminal with a key and a time gives.
+pub record Terminals (S : Type 0) : Type 0 where
+  pub read : (a : Amounts) → (l : AmountList) → ℤ → S → S
+  pub oracle : List ℕ → ℕ → S → Outcome S ℤ
+
+-- 41, by R-4: "when a value leaves that range or a divisor is 0"
+abbrev pub lookedUp : {S : Type 0} → Terminals S → Env → AmountList → Option ℤ → S → Outcome S ℤ
+lookedUp t env l none st = err Refusal.IndexStep st
+lookedUp t env l (some i) st = outcome (amount (amounts env l) l i) (t .read (amounts env l) l i st)
+
+-- "the left operand first"
+abbrev pub binaryStep : {S : Type 0} → BinOp → (S → Outcome S ℤ) → (S → Outcome S ℤ) → S → Outcome S ℤ
+binaryStep o left right st = onward (left st) λ x st₁. onward (right st₁) λ y st₂. outcome (binRow o .result x y) st₂
+
+abbrev pub unaryStep : {S : Type 0} → UnOp → (S → Outcome S ℤ) → S → Outcome S ℤ
+unaryStep o operand st = onward (operand st) λ x st₁. outcome (unRow o .result x) st₁
+
+-- `Expr::eval`, whatever the state
+unfoldable pub eval : {S : Type 0} → Terminals S → Env → Expr → S → Outcome S ℤ
+eval t env (Expr.Const bits) st = ok (signedOf bits) st
+eval t env Expr.CurrInputIdx st = lookedUp t env AmountList.Input (index (env .current) IdxExpr.CurrIdx) st
+eval t env (Expr.Lookup l i) st = lookedUp t env l (index (env .current) i) st
+eval t env (Expr.Binary o x y) st = binaryStep o (eval t env x) (eval t env y) st
+eval t env (Expr.Unary o x) st = unaryStep o (eval t env x) st
+eval t env (Expr.PriceOracle1 key time) st = t .oracle key time st
+eval t env (Expr.PriceOracle1W key time) st = t .oracle key time st
+
+-- `Arith::eval`
+unfoldable pub evalArith : {S : Type 0} → Terminals S → Env → Arith → S → Outcome S Bool
+evalArith t env (Arith.Compare o x y) st =
+    onward (eval t env x st) λ a st₁. onward (eval t env y st₁) λ b st₂. ok (cmpRow o .result a b) st₂
+
+-- EVALUATE'S STATE: the number and the bytes of the checks so far, and the witness elements left, the top first
 pub record State : Type 0 where
   pub checks : ℕ
   pub written : List ℕ
   pub left : List (List ℕ)
 
-pub data Outcome (A : Type 0) : Type 0 where
-  ok : A → State → Outcome A
-  err : Refusal → State → Outcome A
-
-abbrev pub onward : {A B : Type 0} → Outcome A → (A → State → Outcome B) → Outcome B
-onward (ok a st) f = f a st
-onward (err r st) f = err r st
-
-abbrev pub outcome : Value → State → Outcome ℤ
-outcome (Value.Number z) st = ok z st
-outcome (Value.Refused r) st = err r st
-
 -- "a missing element comes before a wrong width"; "a popped element stays popped"
-abbrev pub popFrom : ℕ → Refusal → Refusal → State → List (List ℕ) → Outcome (List ℕ)
+abbrev pub popFrom : ℕ → Refusal → Refusal → State → List (List ℕ) → Outcome State (List ℕ)
 popFrom width absent wrong st [] = err absent st
 popFrom width absent wrong st (e ∷ es) =
     let popped : State = record { checks = st .checks; written = st .written; left = es } in
     cond (eqb (length e) width) (ok e popped) (err wrong popped)
 
-abbrev pub pop : ℕ → Refusal → Refusal → State → Outcome (List ℕ)
+abbrev pub pop : ℕ → Refusal → Refusal → State → Outcome State (List ℕ)
 pop width absent wrong st = popFrom width absent wrong st (st .left)
 
 -- R-8: "The opcodes require the witness time to be at least the terminal's time, both signed"; "39 means the witness time is smaller":
@@ -95,33 +124,23 @@ abbrev pub checkBytes : List ℕ → List ℕ → List ℕ → List ℕ → List
 checkBytes key witnessTime price signature = key ++ witnessTime ++ price ++ signature
 
 -- "pops price, then time (8 bytes each), then signature (64 bytes)"; "A price of 2^63 or more: 40"
-unfoldable pub oracle : List ℕ → ℕ → State → Outcome ℤ
-oracle key time st =
-    onward (pop 8 Refusal.MissingPrice Refusal.Price8BytePush st) λ price st₁.
-    onward (pop 8 Refusal.MissingTimestamp Refusal.Timstamp8BytePush st₁) λ witnessTime st₂.
-    onward (pop 64 Refusal.MissingOracleSignature Refusal.MalformedSig st₂) λ signature st₃.
+abbrev pub afterSignature : List ℕ → ℕ → List ℕ → List ℕ → List ℕ → State → Outcome State ℤ
+afterSignature key time price witnessTime signature st =
     let check = checkBytes key witnessTime price signature in
-    let st₄ : State = record { checks = st₃ .checks + 1; written = st₃ .written ++ check; left = st₃ .left } in
-    cond (inFuture time (bytesValue witnessTime)) (err Refusal.TimestampInFuture st₃)
-    (cond (ltb (bytesValue price) (2 ^ 63)) (ok (pos (bytesValue price)) st₄) (err Refusal.PriceOverflow st₄))
+    let listed : State = record { checks = st .checks + 1; written = st .written ++ check; left = st .left } in
+    cond (inFuture time (bytesValue witnessTime)) (err Refusal.TimestampInFuture st)
+    (cond (ltb (bytesValue price) (2 ^ 63)) (ok (pos (bytesValue price)) listed) (err Refusal.PriceOverflow listed))
 
--- "the left operand first"
-abbrev pub binaryStep : BinOp → (State → Outcome ℤ) → (State → Outcome ℤ) → State → Outcome ℤ
-binaryStep o left right st = onward (left st) λ x st₁. onward (right st₁) λ y st₂. outcome (binRow o .result x y) st₂
+abbrev pub afterTime : List ℕ → ℕ → List ℕ → List ℕ → State → Outcome State ℤ
+afterTime key time price witnessTime st =
+    onward (pop 64 Refusal.MissingOracleSignature Refusal.MalformedSig st) (afterSignature key time price witnessTime)
 
-abbrev pub unaryStep : UnOp → (State → Outcome ℤ) → State → Outcome ℤ
-unaryStep o operand st = onward (operand st) λ x st₁. outcome (unRow o .result x) st₁
+abbrev pub afterPrice : List ℕ → ℕ → List ℕ → State → Outcome State ℤ
+afterPrice key time price st = onward (pop 8 Refusal.MissingTimestamp Refusal.Timstamp8BytePush st) (afterTime key time price)
 
--- `Expr::eval`
-unfoldable pub eval : Env → Expr → State → Outcome ℤ
-eval env (Expr.Const bits) st = ok (signedOf bits) st
-eval env Expr.CurrInputIdx st = outcome (lookedUp env AmountList.Input (index (env .current) IdxExpr.CurrIdx)) st
-eval env (Expr.Lookup l i) st = outcome (lookedUp env l (index (env .current) i)) st
-eval env (Expr.Binary o x y) st = binaryStep o (eval env x) (eval env y) st
-eval env (Expr.Unary o x) st = unaryStep o (eval env x) st
-eval env (Expr.PriceOracle1 key time) st = oracle key time st
-eval env (Expr.PriceOracle1W key time) st = oracle key time st
+unfoldable pub oracle : List ℕ → ℕ → State → Outcome State ℤ
+oracle key time st = onward (pop 8 Refusal.MissingPrice Refusal.Price8BytePush st) (afterPrice key time)
 
--- `Arith::eval`
-unfoldable pub evalArith : Env → Arith → State → Outcome Bool
-evalArith env (Arith.Compare o x y) st = onward (eval env x st) λ a st₁. onward (eval env y st₁) λ b st₂. ok (cmpRow o .result a b) st₂
+-- a lookup leaves no trace in it, an oracle terminal pops the witness
+abbrev pub popping : Terminals State
+popping = record { read = λ a l i st. st; oracle = oracle }

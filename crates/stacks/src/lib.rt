@@ -11,15 +11,15 @@ use semantics::Value;
 use semantics::Verdict;
 ghost use mathlib.Core.Path.{_≡_};
 ghost use mathlib.Core.List.{List, _∷_};
-ghost use Prim.Native.Nat.{_+_, _-_, _≤_, _<_};
+ghost use Prim.Native.Nat.{ℕ, _+_, _-_, _≤_, _<_};
 ghost use lib.IntN.{ℤ};
 ghost use lib.ListN.{length, take, drop};
 ghost use Rattle.index64.specs.Steps.{stepped};
 ghost use Rattle.semantics.specs.Operations.{binRow, cmpRow, idxRow, unRow};
 ghost use Rattle.semantics.specs.Code.{commandRow};
-ghost use Rattle.semantics.specs.Evaluation.{Env, State, ok, outcome};
-ghost use Rattle.semantics.specs.Run.{Run, act, operand, pushIndex, pushValue};
-ghost use Rattle.stacks.specs.Stacks.{OracleOnly, Ready, effectOf, runOf, waiting};
+ghost use Rattle.semantics.specs.declared.Command.{Command};
+ghost use Rattle.semantics.specs.Run.{Move, lookAt, move, onIndex, onValue, operand};
+ghost use Rattle.stacks.specs.Stacks.{OracleOnly, Ready, effectOf, moveOf, waiting};
 
 // What a command leads to: so many values and indexes that wait, or the end of the evaluation.
 pub enum Turn {
@@ -28,17 +28,17 @@ pub enum Turn {
 }
 
 // What a command does: all of it with the operands that wait, or a value from elsewhere is still to be pushed.
-// That is the amount of a list at an index, if it is one, with so many indexes left, or the price of an oracle terminal.
+// That is the amount of a list at an index, with so many indexes left, or the price of an oracle terminal.
 pub enum Effect {
     Turned(Turn),
-    Amount(AmountList, Step, usize),
+    Amount(AmountList, i64, usize),
     Oracle,
 }
 
 // A value, on top of so many.
 pub fn push_value(vals: &mut [i64], v: Value, values: usize, indexes: usize) -> Turn
     requires { ⌜ values < length (now vals) ⌝ }
-    ensures { λ r. ⌜ ((idxs : List ℤ) (st : State) → runOf (now (vals .exit)) idxs st r ≡ pushValue (waiting (now (vals .entry)) values) (waiting idxs indexes) (outcome v st)) ⌝ }
+    ensures { λ r. ⌜ ((idxs : List ℤ) → moveOf (now (vals .exit)) idxs r ≡ onValue (waiting (now (vals .entry)) values) (waiting idxs indexes) v) ⌝ }
 {
     match v {
         Value::Number(z) => {
@@ -52,7 +52,7 @@ pub fn push_value(vals: &mut [i64], v: Value, values: usize, indexes: usize) -> 
 // An index, on top of so many.
 fn push_index(idxs: &mut [i64], s: Step, values: usize, indexes: usize) -> Turn
     requires { ⌜ indexes < length (now idxs) ⌝ }
-    ensures { λ r. ⌜ ((vals : List ℤ) (st : State) → runOf vals (now (idxs .exit)) st r ≡ pushIndex (waiting vals values) (waiting (now (idxs .entry)) indexes) st (stepped s)) ⌝ }
+    ensures { λ r. ⌜ ((vals : List ℤ) → moveOf vals (now (idxs .exit)) r ≡ onIndex (waiting vals values) (waiting (now (idxs .entry)) indexes) (stepped s)) ⌝ }
 {
     match s {
         Step::Value(z) => {
@@ -74,7 +74,7 @@ fn last_index(idxs: &[i64], indexes: usize) -> i64
 // The two last indexes become one.
 fn step_index(op: IdxOp, idxs: &mut [i64], values: usize, indexes: usize) -> Turn
     requires { ⌜ (2 ≤ indexes) × (indexes ≤ length (now idxs)) ⌝ }
-    ensures { λ r. ⌜ ((vals : List ℤ) (st : State) → let is = waiting (now (idxs .entry)) indexes in runOf vals (now (idxs .exit)) st r ≡ pushIndex (waiting vals values) (drop 2 is) st (idxRow op .result (operand is 1) (operand is 0))) ⌝ }
+    ensures { λ r. ⌜ ((vals : List ℤ) → let is = waiting (now (idxs .entry)) indexes in moveOf vals (now (idxs .exit)) r ≡ onIndex (waiting vals values) (drop 2 is) (idxRow op .result (operand is 1) (operand is 0))) ⌝ }
 {
     let s = operations::index(op, idxs[indexes - 2], idxs[indexes - 1]);
     push_index(idxs, s, values, indexes - 2)
@@ -83,7 +83,7 @@ fn step_index(op: IdxOp, idxs: &mut [i64], values: usize, indexes: usize) -> Tur
 // The two last values become one.
 fn step_binary(op: BinOp, vals: &mut [i64], values: usize, indexes: usize) -> Turn
     requires { ⌜ (2 ≤ values) × (values ≤ length (now vals)) ⌝ }
-    ensures { λ r. ⌜ ((idxs : List ℤ) (st : State) → let vs = waiting (now (vals .entry)) values in runOf (now (vals .exit)) idxs st r ≡ pushValue (drop 2 vs) (waiting idxs indexes) (outcome (binRow op .result (operand vs 1) (operand vs 0)) st)) ⌝ }
+    ensures { λ r. ⌜ ((idxs : List ℤ) → let vs = waiting (now (vals .entry)) values in moveOf (now (vals .exit)) idxs r ≡ onValue (drop 2 vs) (waiting idxs indexes) (binRow op .result (operand vs 1) (operand vs 0))) ⌝ }
 {
     let v = operations::binary(op, vals[values - 2], vals[values - 1]);
     push_value(vals, v, values - 2, indexes)
@@ -92,7 +92,7 @@ fn step_binary(op: BinOp, vals: &mut [i64], values: usize, indexes: usize) -> Tu
 // The last value becomes another.
 fn step_unary(op: UnOp, vals: &mut [i64], values: usize, indexes: usize) -> Turn
     requires { ⌜ (1 ≤ values) × (values ≤ length (now vals)) ⌝ }
-    ensures { λ r. ⌜ ((idxs : List ℤ) (st : State) → let vs = waiting (now (vals .entry)) values in runOf (now (vals .exit)) idxs st r ≡ pushValue (drop 1 vs) (waiting idxs indexes) (outcome (unRow op .result (operand vs 0)) st)) ⌝ }
+    ensures { λ r. ⌜ ((idxs : List ℤ) → let vs = waiting (now (vals .entry)) values in moveOf (now (vals .exit)) idxs r ≡ onValue (drop 1 vs) (waiting idxs indexes) (unRow op .result (operand vs 0))) ⌝ }
 {
     let v = operations::unary(op, vals[values - 1]);
     push_value(vals, v, values - 1, indexes)
@@ -101,9 +101,19 @@ fn step_unary(op: UnOp, vals: &mut [i64], values: usize, indexes: usize) -> Turn
 // The two last values are compared: the verdict.
 fn step_compare(op: CmpOp, vals: &[i64], values: usize) -> Turn
     requires { ⌜ (2 ≤ values) × (values ≤ length (now vals)) ⌝ }
-    ensures { λ r. ⌜ ((idxs : List ℤ) (st : State) → let vs = waiting (now (vals .entry)) values in runOf (now (vals .entry)) idxs st r ≡ Run.stopped (ok (cmpRow op .result (operand vs 1) (operand vs 0)) st)) ⌝ }
+    ensures { λ r. ⌜ ((idxs : List ℤ) → let vs = waiting (now (vals .entry)) values in moveOf (now (vals .entry)) idxs r ≡ Move.ended (Verdict.Is (cmpRow op .result (operand vs 1) (operand vs 0)))) ⌝ }
 {
     Turn::Ended(Verdict::Is(operations::compare(op, vals[values - 2], vals[values - 1])))
+}
+
+// A list is asked where an index step led, if it led to an index.
+fn look(list: AmountList, s: Step, indexes: usize) -> Effect
+    ensures { λ r. ⌜ ((command : Command) → OracleOnly command r) × ((n : List ℕ) (vals idxs : List ℤ) (values i : ℕ) → effectOf n vals values idxs i r ≡ lookAt list (waiting vals values) (waiting idxs indexes) (stepped s)) ⌝ }
+{
+    match s {
+        Step::Value(index) => Effect::Amount(list, index, indexes),
+        Step::Overflow => Effect::Turned(Turn::Ended(Verdict::Refused(Refusal::IndexStep))),
+    }
 }
 
 // One command, whose operand bytes stand at `at`. Check refuses code with an unknown one, so that there is none here.
@@ -119,7 +129,7 @@ pub fn step(
 ) -> Effect
     requires { ⌜ Ready command values indexes (now vals) (now idxs) × (at + commandRow command .width ≤ length (now code)) ⌝ }
     ensures { λ r. ⌜ OracleOnly command r ⌝ }
-    ensures { λ r. ⌜ ((env : Env) (st : State) → env .current ≡ current → let n = take (commandRow command .width) (drop at (now (code .entry))) in effectOf env n (now (vals .exit)) values (now (idxs .exit)) indexes st r ≡ act env command n (waiting (now (vals .entry)) values) (waiting (now (idxs .entry)) indexes) st) ⌝ }
+    ensures { λ r. ⌜ (let n = take (commandRow command .width) (drop at (now (code .entry))) in effectOf n (now (vals .exit)) values (now (idxs .exit)) indexes r ≡ move current command n (waiting (now (vals .entry)) values) (waiting (now (idxs .entry)) indexes)) ⌝ }
 {
     match command {
         Command::Unknown => Effect::Turned(Turn::On(values, indexes)),
@@ -135,12 +145,10 @@ pub fn step(
             let z = word64::signed(slices::read_le64(code, at));
             Effect::Turned(push_value(vals, Value::Number(z), values, indexes))
         }
-        Command::CurrInputIdx => {
-            Effect::Amount(AmountList::Input, index64::from_u64(current), indexes)
-        }
+        Command::CurrInputIdx => look(AmountList::Input, index64::from_u64(current), indexes),
         Command::Lookup(list) => {
-            let i = Step::Value(last_index(idxs, indexes));
-            Effect::Amount(list, i, indexes - 1)
+            let index = last_index(idxs, indexes);
+            Effect::Amount(list, index, indexes - 1)
         }
         Command::Binary(op) => Effect::Turned(step_binary(op, vals, values, indexes)),
         Command::Unary(op) => Effect::Turned(step_unary(op, vals, values, indexes)),

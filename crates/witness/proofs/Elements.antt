@@ -11,7 +11,7 @@ use lib.Seq.{slice, length-slice, length-take-le}
 use Rattle.slices.proofs.Bytes.{drop-take}
 use Rattle.semantics.specs.declared.Refusal.{Refusal}
 use Rattle.semantics.specs.Evaluate.{elements, endsSound}
-use Rattle.semantics.specs.Evaluation.{Outcome, err, ok, pop}
+use Rattle.semantics.specs.Evaluation.{Outcome, State, err, ok, pop}
 use Rattle.semantics.proofs.Tests.{and-true}
 use Rattle.witness.specs.declared.Element.{Element}
 use Rattle.witness.specs.declared.Place.{Place}
@@ -68,7 +68,7 @@ left-count w ends n h = length-reverse (elements 0 w (take n ends)) ∙ elements
 
 module _ (w ends out : List ℕ) (sound : endsSound 0 (length w) ends ≡ true) where
   -- what a pop of the definitions gives, by where the element stands
-  abbrev pub placeOutcome : ℕ → ℕ → ℕ → Place → Outcome (List ℕ)
+  abbrev pub placeOutcome : ℕ → ℕ → ℕ → Place → Outcome State (List ℕ)
   placeOutcome width checks left (Place.At p) = ok (take width (drop p w)) (stateOf w ends out left checks)
   placeOutcome width checks left (Place.Refused r) = err r (stateOf w ends out left checks)
 

@@ -14,12 +14,12 @@ use Rattle.semantics.proofs.Machine.{key-at, time-at}
 use Rattle.semantics.specs.declared.Refusal.{Refusal}
 use Rattle.semantics.specs.declared.Value.{Value}
 use Rattle.semantics.specs.Evaluate.{endsSound}
-use Rattle.semantics.specs.Evaluation.{Outcome, State, checkBytes, err, inFuture, ok, onward, oracle, outcome, pop}
+use Rattle.semantics.specs.Evaluation.{Outcome, State, afterPrice, afterSignature, afterTime, checkBytes, err, inFuture, ok, onward, oracle, outcome, pop}
 use Rattle.witness.specs.declared.Judged.{Judged}
 use Rattle.witness.specs.declared.Place.{Place}
 use Rattle.witness.specs.declared.Witness.{Witness}
 use Rattle.witness.specs.Elements.{fewer, placed, popped, stateOf, takenPlace, takenWitness}
-use Rattle.witness.specs.Oracle.{Gives, Judges, Lies, Settles, afterPrice, afterSignature, afterTime, keyAt, priced, timeAt}
+use Rattle.witness.specs.Oracle.{Gives, Judges, Lies, Settles, keyAt, priced, timeAt}
 use Rattle.witness.proofs.Elements.{placeOutcome, pop-taken, taken-within}
 
 -- an element is popped on the way to an oracle terminal's value, and must have a width:
@@ -36,7 +36,7 @@ module _ (w ends old : List ℕ) (sound : endsSound 0 (length w) ends ≡ true) 
   pop-is : pop width absent wrong (stateOf w ends old (h .left) (h .checks)) ≡ placeOutcome w ends old sound width (h .checks) (h .left - 1) place
   pop-is = pop-taken w ends old sound (h .left) width (h .checks) absent wrong few
 
-  module _ (k : List ℕ → State → Outcome ℤ) where
+  module _ (k : List ℕ → State → Outcome State ℤ) where
     pops-found : (new : List ℕ) (p : ℕ) (v : Value) (h′ : Witness) → place ≡ Place.At p → Gives (k (take width (drop p w))) w ends old new (fewer h) v h′
         → Gives (λ st. onward (pop width absent wrong st) k) w ends old new h v h′
     pops-found new p v h′ e g =
@@ -159,7 +159,7 @@ priced-outcome n st false = refl
 
 -- after the three pops: the time at t, the price at p and the signature at q
 module _ (code : List ℕ) (at : ℕ) (w ends old : List ℕ) (p t q left checks time : ℕ) (terminal : Read64 code (at + 32) time) where
-  abbrev rest : State → Outcome ℤ
+  abbrev rest : State → Outcome State ℤ
   rest = afterSignature (keyAt code at) (timeAt code at) (take 8 (drop p w)) (take 8 (drop t w)) (take 64 (drop q w))
 
   pub judged-in-future : inFuture time (bytesValue (take 8 (drop t w))) ≡ true

@@ -1,4 +1,4 @@
--- What is left of `oracle` after each pop, and what a function that does it promises.
+-- What a function that does a stage of `oracle` promises.
 use Prim.Native.Nat.{ℕ, _+_, _*_, _^_, _≤_}
 use mathlib.Core.Bool.{cond, true}
 use mathlib.Core.Path.{_≡_}
@@ -10,25 +10,11 @@ use Rattle.slices.specs.Bytes.{bytesValue}
 use Rattle.semantics.specs.declared.Refusal.{Refusal}
 use Rattle.semantics.specs.declared.Value.{Value}
 use Rattle.semantics.specs.Evaluate.{endsSound}
-use Rattle.semantics.specs.Evaluation.{Outcome, State, checkBytes, err, inFuture, ok, onward, outcome, pop}
+use Rattle.semantics.specs.Evaluation.{Outcome, State, afterSignature, outcome}
 use Rattle.witness.specs.declared.Judged.{Judged}
 use Rattle.witness.specs.declared.Place.{Place}
 use Rattle.witness.specs.declared.Witness.{Witness}
 use Rattle.witness.specs.Elements.{stateOf}
-
-abbrev pub afterSignature : List ℕ → ℕ → List ℕ → List ℕ → List ℕ → State → Outcome ℤ
-afterSignature key time price witnessTime signature st =
-    let check = checkBytes key witnessTime price signature in
-    let listed : State = record { checks = st .checks + 1; written = st .written ++ check; left = st .left } in
-    cond (inFuture time (bytesValue witnessTime)) (err Refusal.TimestampInFuture st)
-    (cond (ltb (bytesValue price) (2 ^ 63)) (ok (pos (bytesValue price)) listed) (err Refusal.PriceOverflow listed))
-
-abbrev pub afterTime : List ℕ → ℕ → List ℕ → List ℕ → State → Outcome ℤ
-afterTime key time price witnessTime st =
-    onward (pop 64 Refusal.MissingOracleSignature Refusal.MalformedSig st) (afterSignature key time price witnessTime)
-
-abbrev pub afterPrice : List ℕ → ℕ → List ℕ → State → Outcome ℤ
-afterPrice key time price st = onward (pop 8 Refusal.MissingTimestamp Refusal.Timstamp8BytePush st) (afterTime key time price)
 
 -- what a price of the witness is worth
 abbrev pub priced : ℕ → Value
@@ -49,7 +35,7 @@ pub record Asks (code : List ℕ) (at : ℕ) (witness ends out : List ℕ) (h : 
   pub sound : endsSound 0 (length witness) ends ≡ true
 
 -- what is left of it gives this outcome; no element comes back, at most one check is new, and the bytes after the checks are as they were
-pub record Gives (rest : State → Outcome ℤ) (witness ends old new : List ℕ) (h : Witness) (value : Value) (h′ : Witness) : Type 0 where
+pub record Gives (rest : State → Outcome State ℤ) (witness ends old new : List ℕ) (h : Witness) (value : Value) (h′ : Witness) : Type 0 where
   pub gives : outcome value (stateOf witness ends new (h′ .left) (h′ .checks)) ≡ rest (stateOf witness ends old (h .left) (h .checks))
   pub fewer : h′ .left ≤ h .left
   pub more : h .checks ≤ h′ .checks

@@ -7,9 +7,9 @@ ghost use mathlib.Core.List.{List, _++_};
 ghost use Prim.Native.Nat.{ℕ, _+_, _-_, _*_, _≤_, _<_};
 ghost use lib.ListN.{length, take, drop};
 ghost use Rattle.semantics.specs.Evaluate.{endsSound};
-ghost use Rattle.semantics.specs.Evaluation.{checkBytes, inFuture, oracle};
+ghost use Rattle.semantics.specs.Evaluation.{afterSignature, checkBytes, inFuture, oracle};
 ghost use Rattle.witness.specs.Elements.{fewer, placed, popped, takenPlace, takenWitness};
-ghost use Rattle.witness.specs.Oracle.{Asks, Gives, Judges, Settles, afterSignature, keyAt, priced, timeAt};
+ghost use Rattle.witness.specs.Oracle.{Asks, Gives, Judges, Settles, keyAt, priced, timeAt};
 
 // The parts of a check: the terminal's key, and time, price and signature of the witness.
 const KEY_BYTES: usize = 32;

@@ -1,7 +1,7 @@
 -- Each refusal is a test's (`refused-first` to `refused-buffer`); what the run answers is the tree's (`answers`).
 use borrow.Author.Needs.{needs}
 use Prim.Native.Nat.{_<_}
-use mathlib.Core.Path.{_≡_, sym, _∙_}
+use mathlib.Core.Path.{_≡_, refl, sym, ap, _∙_}
 use native.Mathlib.Omega.{arith}
 use borrow.Author.Tests.{not-false, not-true}
 use Rattle.slices.specs.Bytes.{Bytes}
@@ -13,8 +13,8 @@ use Rattle.amounts.specs.Lists.{envOf}
 use Rattle.summary.specs.declared.Summary.{Summary}
 use Rattle.condition.specs.declared.Examined.{Examined}
 use Rattle.condition.specs.Walk.{examined}
-use Rattle.condition.proofs.Onward.{few-oracles}
-use Rattle.evaluation.proofs.Calls.{answers, bounded, passed-on, refused-amounts, refused-buffer, refused-first, refused-on, refused-witness}
+use Rattle.condition.proofs.Onward.{few-oracles, passed, passed-with, told}
+use Rattle.evaluation.proofs.Calls.{answers, refused-amounts, refused-buffer, refused-first, refused-witness}
 use Rattle.evaluation.proofs.evaluate.Statement.{statement}
 use Rattle.evaluation.proofs.evaluate.Tie as tie
 
@@ -42,7 +42,7 @@ knows : (m : tie.After-amounts-sound) → examined (begin m .args .code .now) �
 knows m = sym (m .before .before .before .before .examine .ensures) ∙ m .before .before .s .given .1
 
 passes : (m : tie.After-amounts-sound) → checked (begin m .args .code .now) ≡ Checked.Passed (last m .tokens) (last m .oracles)
-passes m = passed-on (begin m .args .code .now) (last m) (knows m)
+passes m = told (begin m .args .code .now) (Examined.Passed (last m)) (knows m)
 
 returns : tie.Need-returns
 returns c =
@@ -65,12 +65,12 @@ returns-3 c =
 run-passed-requires : tie.Need-run-passed-requires
 run-passed-requires c κs =
     let m = c .before .before .before .before .before .before in
-    (sym (c .before .before .before .before .ends-sound .ensures) ∙ not-false _ (c .before .before .before .if2 .left), bounded (begin m .args .code .now) (last m) _ (knows m) (c .before .if3 .left))
+    (sym (c .before .before .before .before .ends-sound .ensures) ∙ not-false _ (c .before .before .before .if2 .left), passed-with (begin m .args .code .now) (last m) (knows m) (refl, c .before .if3 .left))
 
 returns-4 : tie.Need-returns-4
 returns-4 c =
     let s = c .before .before .before .before .before .before .before .before .before .before .before .before .before .before .before .before .before in
-    rw (c .refused .ensures) (refused-first (s .args .code .now) (lent s) _ (refused-on (s .args .code .now) _ (sym (c .before .before .before .before .examine .ensures) ∙ c .before .before .r .given .1)))
+    rw (c .refused .ensures) (refused-first (s .args .code .now) (lent s) _ (told (s .args .code .now) (Examined.Refused _) (sym (c .before .before .before .before .examine .ensures) ∙ c .before .before .r .given .1)))
 
 returns-5 : tie.Need-returns-5
 returns-5 c =
@@ -93,7 +93,7 @@ evaluate-spec =
     (λ c κs. search needs)
     (λ c κs. search needs)
     returns-2
-    (λ c. omega (arith, few-oracles _ _ _ (passes (c .before .before .before .before))))
+    (λ c. let m = c .before .before .before .before in let p = passed (begin m .args .code .now) (last m) (knows m) in omega (arith, few-oracles _ p, ap (λ (s : Summary). s .oracles) (p .known)))
     (λ c κs. search needs)
     returns-3
     run-passed-requires

@@ -15,5 +15,5 @@ push-index-spec =
     (λ c. search needs)
     (λ c. search needs)
     (λ c. search needs)
-    (λ c. λ vals st. let a = c .before .before .before .args in rw (c .before .s .given .1, toZ-ofZ (sfits-of (c .known-told .given .0 .1)), pushed (a .idxs .now) (a .indexes) (c .before .s .given .0 .0) (c .before .before .before .pre)))
-    (λ c. λ vals st. rw (c .enum-told .given .1)))
+    (λ c vals. let a = c .before .before .before .args in rw (c .before .s .given .1, toZ-ofZ (sfits-of (c .known-told .given .0 .1)), pushed (a .idxs .now) (a .indexes) (c .before .s .given .0 .0) (c .before .before .before .pre)))
+    (λ c vals. rw (c .enum-told .given .1)))

@@ -15,5 +15,5 @@ push-value-spec =
     (λ c. search needs)
     (λ c. search needs)
     (λ c. search needs)
-    (λ c. λ idxs st. let a = c .before .before .before .args in rw (c .before .v .given .1, toZ-ofZ (sfits-of (c .known-told .given .0 .1)), pushed (a .vals .now) (a .values) (c .before .v .given .0 .0) (c .before .before .before .pre)))
-    (λ c. λ idxs st. rw (c .before .v2 .given .1)))
+    (λ c idxs. let a = c .before .before .before .args in rw (c .before .v .given .1, toZ-ofZ (sfits-of (c .known-told .given .0 .1)), pushed (a .vals .now) (a .values) (c .before .v .given .0 .0) (c .before .before .before .pre)))
+    (λ c idxs. rw (c .before .v2 .given .1)))

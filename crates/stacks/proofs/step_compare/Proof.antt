@@ -5,7 +5,7 @@ use Rattle.stacks.proofs.step_compare.Statement.{statement}
 use Rattle.stacks.proofs.step_compare.Tie as tie
 
 returns : tie.Need-returns
-returns c idxs st =
+returns c idxs =
     let a = c .before .before .before .args in
     rw (two-passed (a .vals .now) (a .values) (c .before .before .before .pre .0) (search needs) (search needs), ← c .compare .ensures)
 

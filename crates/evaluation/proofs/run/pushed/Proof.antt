@@ -13,6 +13,6 @@ pushed-spec =
     (λ c. search needs)
     (λ c. search needs)
     (λ c. search needs)
-    (λ c. (refl, λ indexes st. rw (c .before .values .given .1) at (c .before .before .before .before .push-value .ensures indexes st)))
+    (λ c. (refl, λ indexes. rw (c .before .values .given .1) at (c .before .before .before .before .push-value .ensures indexes)))
     (λ c. search needs)
-    (λ c. λ indexes st. rw (c .before .verdict .given .1) at (c .before .before .before .before .push-value .ensures indexes st)))
+    (λ c. λ indexes. rw (c .before .verdict .given .1) at (c .before .before .before .before .push-value .ensures indexes)))

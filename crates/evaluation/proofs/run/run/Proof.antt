@@ -61,10 +61,11 @@ use Rattle.witness.proofs.ask as ask
 use Rattle.witness.proofs.ask.Symbol as ask-def
 use Rattle.witness.proofs.ask.Symbol.{name as #witness·ask}
 use Rattle.witness.proofs.ask.Met as ask-thm
+use Rattle.condition.specs.Walk.{Passed}
 use Rattle.evaluation.specs.declared.run.Next.{Next}
 use Rattle.evaluation.specs.declared.run.Spot.{Spot}
 use Rattle.evaluation.specs.declared.run.Step.{Step}
-use Rattle.evaluation.specs.Run.{Fetched, Fits, Pushed, nextAfter}
+use Rattle.evaluation.specs.Run.{Fetched, Pushed, Room, nextAfter}
 use Rattle.evaluation.proofs.Turns.{Good, rank, good-start, fetches, fetched-good, fetched-falls, paused-asks, paused-room, pushed-good, pushed-falls}
 use Rattle.evaluation.proofs.run.Next as N
 use Rattle.evaluation.proofs.run.Next.Laws as N′
@@ -310,7 +311,7 @@ module _ {M : Type 1} (𝓤 : URA M) (H : Heap 𝓤) (A : Atoms 𝓤) (W : Given
         (u .0) (u .1 .0) r told))))))
 
   -- ---- the whole: w and the spot are made, and the loop is turned
-  walk : Related site → endsSound 0 (length (bytes .now)) (ends .now) ≡ true → Fits (code .now) (vals .now) (idxs .now) (out .now)
+  walk : Related site → endsSound 0 (length (bytes .now)) (ends .now) ≡ true → Passed (code .now) (Room (length (vals .now)) (length (idxs .now)) (length (out .now)))
       → Begins site W the-code.function 𝓣 l
   walk are sound fits =
       let w₀ : Witness = record { left = length (ends .now); checks = 0 } in
@@ -327,7 +328,7 @@ module _ {M : Type 1} (𝓤 : URA M) (H : Heap 𝓤) (A : Atoms 𝓤) (W : Given
 
 module _ {M : Type 1} (𝓤 : URA M) (H : Heap 𝓤) (A : Atoms 𝓤) (W : Given 𝓤 H A) (mem : Memory → SProp 𝓤) (run : Routine → Fun 𝓤) (𝓣 : Tables 𝓤 H) where
   abbrev Asked : Site f.ended (f.clauses 𝓤 H A mem run) ways → Type 0
-  Asked s = (endsSound 0 (length (arg s 10 .now)) (arg s 11 .now) ≡ true) × Fits (arg s 0 .now) (arg s 13 .now) (arg s 14 .now) (arg s 12 .now)
+  Asked s = (endsSound 0 (length (arg s 10 .now)) (arg s 11 .now) ≡ true) × Passed (arg s 0 .now) (Room (length (arg s 13 .now)) (length (arg s 14 .now)) (length (arg s 12 .now)))
 
   run-meets : Knows 𝓤 H A W (𝓣 .C) #evaluation·run·fetch fetch.ended (fetch.clauses 𝓤 H A mem run)
       → Knows 𝓤 H A W (𝓣 .C) #witness·ask ask.ended (ask.clauses 𝓤 H A mem run)
