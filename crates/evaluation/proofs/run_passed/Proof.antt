@@ -21,6 +21,6 @@ run-passed-spec =
     (λ c. c .before .before .before .before .run2 .ensures)
     (λ c. search needs)
     (λ c. search needs)
-    (λ c κs. let q = c .before .before .before .before .before .before .before .before .before .before .before .before .before .before .before .before .before .pre in let p = q .1 in let few = few-wait _ p in (q .0, passed-as (λ s k. let b = omega (arith, k .0, p .known .0, few) in (b, b, k .1)) p))
+    (λ c κs. let q = c .before .before .before .before .before .before .before .before .before .before .before .before .before .before .before .before .before .pre in let p = q .1 in let few = few-wait _ p in (q .0, passed-as (λ s k. (omega (arith, k .0, p .known .0, few), omega (arith, k .0, p .known .0, few), k .1)) p))
     (λ c. search needs)
     (λ c. c .before .before .before .before .run3 .ensures))
