@@ -12,7 +12,7 @@ use lib.ListN.{length, length-append, length-drop}
 use Rattle.semantics.specs.declared.CmpOp.{CmpOp}
 use Rattle.semantics.specs.declared.Command.{Command}
 use Rattle.semantics.specs.declared.Terminal.{Terminal}
-use Rattle.semantics.specs.Code.{commandRow, needMet}
+use Rattle.semantics.specs.Code.{commandRow, needMet, tokenCount}
 use Rattle.semantics.specs.Oracle.{terminals}
 use Rattle.semantics.specs.Parse.{Waiting, Walk, built, fold, instructions, lengths, nothing, passes, treeStep, walkStep}
 use Rattle.semantics.specs.Token.{exprForm, form, idxForm}
@@ -72,7 +72,7 @@ beside s = record { bytes = s .bytes; lookups = s .lookups; most = s .most }
 
 -- a command whose need is met adds its tokens and its terminals
 tokens-built : (c : Command) (n : List ℕ) (vs : List Expr) (is : List IdxExpr) → needMet (commandRow c) (length vs) (length is) ≡ true
-    → let w = built c n (waiting vs is) in tokensIn (w .conditions) (w .values) (w .indexes) ≡ exprTokens vs + idxTokens is + commandRow c .tokens
+    → let w = built c n (waiting vs is) in tokensIn (w .conditions) (w .values) (w .indexes) ≡ exprTokens vs + idxTokens is + tokenCount (commandRow c)
 unfolding exprTokens idxTokens tokensIn exprForm idxForm form
 tokens-built Command.Unknown n vs is e = sym (add-zero (exprTokens vs + idxTokens is))
 tokens-built Command.IdxConst n vs is e = omega arith

@@ -3,9 +3,10 @@ use Prim.Native.Nat.{ℕ, zero, suc, _*_}
 use mathlib.Core.Bool.{Bool, true, false, _&&_, cond}
 use mathlib.Core.List.{List, [], _∷_, _++_, map}
 use lib.Dec.{eqb, leb}
-use lib.ListN.{length}
-use Rattle.slices.specs.Bytes.{littleEndian}
+use lib.ListN.{length, take, drop}
+use Rattle.slices.specs.Bytes.{bytesValue, littleEndian}
 use Rattle.semantics.specs.Operations.{idxRow, listRow, binRow, unRow, cmpRow, idxOps, amountLists, binOps, unOps, cmpOps}
+use Rattle.semantics.specs.Token.{Token, bytes8, num, op, oracleForm, oracleWForm}
 use Rattle.semantics.specs.Trees.{AmountList, IdxExpr, Expr, Arith}
 use Rattle.semantics.specs.declared.Terminal.{Terminal}
 pub use Rattle.semantics.specs.declared.Command.{Command}
@@ -24,26 +25,28 @@ pub data Made : Type 0 where
   value : Made
   condition : Made
 
--- a command's byte; the number of its operand bytes; the values and indexes that it takes, and what it makes of them; the number of its own tokens;
--- the terminal that it is, and the list that it looks up, if it is one and does
+-- a command's byte; the number of its operand bytes; the values and indexes that it takes, and what it makes of them; the tokens that stand between
+-- those of its two operands, and its own after them, with its operand bytes; the terminal that it is, and the list that it looks up, if it is one and does
 pub record CommandRow : Type 0 where
   pub byte : ℕ
   pub width : ℕ
   pub values : ℕ
   pub indexes : ℕ
   pub makes : Made
-  pub tokens : ℕ
+  pub between : List Token
+  pub tokens : List ℕ → List Token
   pub terminals : List Terminal
   pub lists : List AmountList
 
-abbrev pub row : ℕ → ℕ → ℕ → ℕ → Made → ℕ → List Terminal → List AmountList → CommandRow
-row byte width values indexes makes tokens terminals lists =
+abbrev pub row : ℕ → ℕ → ℕ → ℕ → Made → List Token → (List ℕ → List Token) → List Terminal → List AmountList → CommandRow
+row byte width values indexes makes between tokens terminals lists =
     record {
       byte = byte;
       width = width;
       values = values;
       indexes = indexes;
       makes = makes;
+      between = between;
       tokens = tokens;
       terminals = terminals;
       lists = lists;
@@ -54,18 +57,24 @@ other = Terminal.Other ∷ []
 
 abbrev pub commandRow : Command → CommandRow
 -- every byte that no row below has; `commands` leaves this row out, so that its own byte is never compared
-commandRow Command.Unknown = row 0 0 0 0 Made.nothing 0 [] []
-commandRow Command.IdxConst = row 1 8 0 0 Made.index 1 [] []
-commandRow Command.CurrIdx = row 2 0 0 0 Made.index 1 [] []
-commandRow (Command.Index o) = row (idxRow o .command) 0 0 2 Made.index (length (idxRow o .between ++ idxRow o .form)) [] []
-commandRow Command.Const = row 16 8 0 0 Made.value 1 other []
-commandRow Command.CurrInputIdx = row 17 0 0 0 Made.value 5 other (AmountList.Input ∷ [])
-commandRow (Command.Lookup l) = row (listRow l .command) 0 0 1 Made.value (length (listRow l .form)) other (l ∷ [])
-commandRow (Command.Binary o) = row (binRow o .command) 0 2 0 Made.value (length (binRow o .form)) [] []
-commandRow (Command.Unary o) = row (unRow o .command) 0 1 0 Made.value (length (unRow o .form)) [] []
-commandRow Command.PriceOracle1 = row 32 40 0 0 Made.value 10 (Terminal.PriceOracle1 ∷ []) []
-commandRow Command.PriceOracle1W = row 33 40 0 0 Made.value 13 (Terminal.PriceOracle1W ∷ []) []
-commandRow (Command.Compare o) = row (cmpRow o .command) 0 2 0 Made.condition (length (cmpRow o .form)) [] []
+commandRow Command.Unknown = row 0 0 0 0 Made.nothing [] (λ n. []) [] []
+commandRow Command.IdxConst = row 1 8 0 0 Made.index [] (λ n. num (bytesValue n) ∷ []) [] []
+commandRow Command.CurrIdx = row 2 0 0 0 Made.index [] (λ n. op 4 ∷ []) [] []
+commandRow (Command.Index o) = row (idxRow o .command) 0 0 2 Made.index (idxRow o .between) (λ n. idxRow o .form) [] []
+commandRow Command.Const = row 16 8 0 0 Made.value [] (λ n. bytes8 (bytesValue n) ∷ []) other []
+commandRow Command.CurrInputIdx = row 17 0 0 0 Made.value [] (λ n. op 4 ∷ listRow AmountList.Input .form) other (AmountList.Input ∷ [])
+commandRow (Command.Lookup l) = row (listRow l .command) 0 0 1 Made.value [] (λ n. listRow l .form) other (l ∷ [])
+commandRow (Command.Binary o) = row (binRow o .command) 0 2 0 Made.value [] (λ n. binRow o .form) [] []
+commandRow (Command.Unary o) = row (unRow o .command) 0 1 0 Made.value [] (λ n. unRow o .form) [] []
+commandRow Command.PriceOracle1 =
+    row 32 40 0 0 Made.value [] (λ n. oracleForm (take 32 n) (bytesValue (drop 32 n))) (Terminal.PriceOracle1 ∷ []) []
+commandRow Command.PriceOracle1W =
+    row 33 40 0 0 Made.value [] (λ n. oracleWForm (take 32 n) (bytesValue (drop 32 n))) (Terminal.PriceOracle1W ∷ []) []
+commandRow (Command.Compare o) = row (cmpRow o .command) 0 2 0 Made.condition [] (λ n. cmpRow o .form) [] []
+
+-- how many tokens a command adds to the form
+abbrev pub tokenCount : CommandRow → ℕ
+tokenCount r = length (r .between ++ r .tokens [])
 
 -- whether as many wait as are taken
 abbrev pub enough : ℕ → ℕ → Bool

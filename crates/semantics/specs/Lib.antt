@@ -2,9 +2,9 @@
 pub mod Trees
 pub mod Refusals
 pub mod Operations
+pub mod Token
 pub mod Code
 pub mod Parse
-pub mod Token
 pub mod Oracle
 pub mod FromTokens
 pub mod Evaluation

@@ -18,7 +18,11 @@ abbrev pub oracleForm : List ℕ → ℕ → List Token
 oracleForm key time =
     op 25 ∷ op 26 ∷ bytes8 time ∷ op 28 ∷ op 15 ∷ op 32 ∷ op 33 ∷ bytes32 key ∷ op 34 ∷ op 27 ∷ []
 
--- `Expr::push_to_builder`; `PriceOracle1W` stands between TOALTSTACK and FROMALTSTACK SWAP
+-- the same between TOALTSTACK and FROMALTSTACK SWAP
+abbrev pub oracleWForm : List ℕ → ℕ → List Token
+oracleWForm key time = op 26 ∷ oracleForm key time ++ op 27 ∷ op 35 ∷ []
+
+-- `Expr::push_to_builder`
 unfoldable pub exprForm : Expr → List Token
 exprForm (Expr.Const bits) = bytes8 bits ∷ []
 exprForm Expr.CurrInputIdx = op 4 ∷ listRow AmountList.Input .form
@@ -26,7 +30,7 @@ exprForm (Expr.Lookup l i) = idxForm i ++ listRow l .form
 exprForm (Expr.Binary o x y) = exprForm x ++ exprForm y ++ binRow o .form
 exprForm (Expr.Unary o x) = exprForm x ++ unRow o .form
 exprForm (Expr.PriceOracle1 key time) = oracleForm key time
-exprForm (Expr.PriceOracle1W key time) = op 26 ∷ oracleForm key time ++ op 27 ∷ op 35 ∷ []
+exprForm (Expr.PriceOracle1W key time) = oracleWForm key time
 
 -- `Arith::push_to_builder`
 unfoldable pub form : Arith → List Token

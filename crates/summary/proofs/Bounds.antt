@@ -12,7 +12,7 @@ use Rattle.semantics.specs.declared.Command.{Command}
 use Rattle.semantics.specs.declared.IdxOp.{IdxOp}
 use Rattle.semantics.specs.declared.Terminal.{Terminal}
 use Rattle.semantics.specs.declared.UnOp.{UnOp}
-use Rattle.semantics.specs.Code.{CommandRow, commandRow, known, maxCode}
+use Rattle.semantics.specs.Code.{CommandRow, commandRow, known, maxCode, tokenCount}
 use Rattle.semantics.specs.Parse.{given}
 use Rattle.semantics.proofs.Counts.{given-one}
 use Rattle.semantics.proofs.Heads.{binOp-long, cmp-long, idxOp-long, list-long, unOp-long}
@@ -41,12 +41,12 @@ oracles-grow (t ∷ ts) k n h =
 
 -- of each row: it has few tokens, it is a terminal once at the most, with a token then, and looks up a list once at the most
 pub record Modest (r : CommandRow) : Type 0 where
-  pub tokens : r .tokens ≤ mostTokens
+  pub tokens : tokenCount r ≤ mostTokens
   pub terminals : length (r .terminals) ≤ 1
-  pub owned : length (r .terminals) ≤ r .tokens
+  pub owned : length (r .terminals) ≤ tokenCount r
   pub lists : length (r .lists) ≤ 1
 
-tokens-le : (c : Command) → commandRow c .tokens ≤ mostTokens
+tokens-le : (c : Command) → tokenCount (commandRow c) ≤ mostTokens
 tokens-le Command.Unknown = omega arith
 tokens-le Command.IdxConst = omega arith
 tokens-le Command.CurrIdx = omega arith
@@ -73,7 +73,7 @@ tokens-le (Command.Compare o) =
     elim o [ CmpOp.Eq ↦ omega arith | CmpOp.Lt ↦ omega arith | CmpOp.Leq ↦ omega arith | CmpOp.Gt ↦ omega arith | CmpOp.Geq ↦ omega arith ]
 
 columns : (c : Command)
-    → (length (commandRow c .terminals) ≤ 1) × (length (commandRow c .terminals) ≤ commandRow c .tokens) × (length (commandRow c .lists) ≤ 1)
+    → (length (commandRow c .terminals) ≤ 1) × (length (commandRow c .terminals) ≤ tokenCount (commandRow c)) × (length (commandRow c .lists) ≤ 1)
 columns Command.Unknown = (omega arith, omega arith, omega arith)
 columns Command.IdxConst = (omega arith, omega arith, omega arith)
 columns Command.CurrIdx = (omega arith, omega arith, omega arith)
@@ -91,7 +91,7 @@ pub modest : (c : Command) → Modest (commandRow c)
 modest c = record { tokens = tokens-le c; terminals = columns c .0; owned = columns c .1; lists = columns c .2 }
 
 -- a command has a token
-pub some-token : (c : Command) → known c ≡ true → 1 ≤ commandRow c .tokens
+pub some-token : (c : Command) → known c ≡ true → 1 ≤ tokenCount (commandRow c)
 some-token Command.Unknown e = absurd (let z : _≡_ {A = ℕ} 0 1 = cc in omega arith)
 some-token Command.IdxConst e = omega arith
 some-token Command.CurrIdx e = omega arith

@@ -1,13 +1,14 @@
 -- A step by a command's row: what the tests say, and what the numbers come to.
 use Prim.Native.Nat.{ℕ, zero, suc, _+_, _-_, _≤_, _<_}
-use mathlib.Core.Path.{_≡_, refl}
+use mathlib.Core.Path.{_≡_, refl, sym, ap}
 use mathlib.Core.Bool.{Bool, true, false, cond}
 use native.Mathlib.Omega.{arith}
 use borrow.Author.Tests.{le-leb, le-ltb, lt-leb, lt-ltb, ltb-false, ltb-true}
 use lib.Dec.{ltb}
-use lib.ListN.{length}
+use lib.ListN.{length, length-replicate, replicate}
 use Rattle.semantics.specs.declared.Command.{Command}
-use Rattle.semantics.specs.Code.{CommandRow, commandRow, enough, needMet}
+use Rattle.semantics.specs.Code.{CommandRow, commandRow, enough, needMet, tokenCount}
+use Rattle.semantics.specs.Operations.{op}
 use Rattle.semantics.specs.Parse.{given}
 use Rattle.summary.specs.declared.Rule.{Rule}
 use Rattle.summary.specs.declared.Stepped.{Stepped}
@@ -48,12 +49,16 @@ module _ (r : CommandRow) (size : ℕ) (s : Summary) where
   passes t h e q = rw (le-ltb (size - s .bytes - 1) (r .width) h, e, q)
 
   pub next-is : {b v i d t o l m : ℕ} {u : Rule} → b ≡ s .bytes + 1 + r .width → v ≡ s .values - r .values + given (r .makes) .values
-      → i ≡ s .indexes - r .indexes + given (r .makes) .indexes → d ≡ s .conditions + given (r .makes) .conditions → t ≡ s .tokens + r .tokens
+      → i ≡ s .indexes - r .indexes + given (r .makes) .indexes → d ≡ s .conditions + given (r .makes) .conditions → t ≡ s .tokens + tokenCount r
       → o ≡ foldTerminals counted (s .oracles) (r .terminals) → u ≡ foldTerminals ruled (s .rule) (r .terminals) → l ≡ s .lookups + length (r .lists)
       → m ≡ nextBy r s .most
       → record { bytes = b; values = v; indexes = i; conditions = d; tokens = t; oracles = o; rule = u; lookups = l; most = m } ≡ nextBy r s
   next-is p₀ p₁ p₂ p₃ p₄ p₅ p₆ p₇ p₈ =
       λ k. record { bytes = p₀ k; values = p₁ k; indexes = p₂ k; conditions = p₃ k; tokens = p₄ k; oracles = p₅ k; rule = p₆ k; lookups = p₇ k; most = p₈ k }
+
+-- so many tokens are added
+pub added : (n k : ℕ) → n + k ≡ n + length (replicate k (op 0))
+added n k = ap (λ (m : ℕ). n + m) (sym (length-replicate k (op 0)))
 
 -- a byte that is no command's
 pub unknown-fails : (size : ℕ) (s : Summary) → Stepped.Failed ≡ stepped Command.Unknown size s

@@ -3,10 +3,12 @@ use Prim.Native.Nat.{ℕ, _+_, _-_, _*_, _≤_, _<_}
 use mathlib.Core.Bool.{cond}
 use mathlib.Core.List.{List, [], _∷_}
 use lib.Dec.{ltb}
-use lib.ListN.{length}
+use lib.ListN.{length, replicate}
+use Rattle.semantics.specs.declared.AmountList.{AmountList}
 use Rattle.semantics.specs.declared.Command.{Command}
 use Rattle.semantics.specs.declared.Terminal.{Terminal}
-use Rattle.semantics.specs.Code.{CommandRow, Made, commandRow, maxCode, needMet}
+use Rattle.semantics.specs.Code.{CommandRow, Made, commandRow, maxCode, needMet, row, tokenCount}
+use Rattle.semantics.specs.Operations.{op}
 use Rattle.semantics.specs.Parse.{Counts, countsAfter}
 use Rattle.summary.specs.declared.Rule.{Rule}
 use Rattle.summary.specs.declared.Summary.{Summary}
@@ -48,7 +50,7 @@ nextBy r s =
       values = w .values;
       indexes = w .indexes;
       conditions = w .conditions;
-      tokens = s .tokens + r .tokens;
+      tokens = s .tokens + tokenCount r;
       oracles = foldTerminals counted (s .oracles) (r .terminals);
       rule = foldTerminals ruled (s .rule) (r .terminals);
       lookups = s .lookups + length (r .lists);
@@ -70,6 +72,10 @@ abbrev pub steppedBy : CommandRow → ℕ → Summary → Stepped
 steppedBy r length s =
     cond (ltb (length - s .bytes - 1) (r .width)) Stepped.Failed
     (cond (needMet r (s .values) (s .indexes)) (madeAs (r .makes) (nextBy r s)) Stepped.Failed)
+
+-- a row of which no more is said than a step asks: its tokens are so many
+abbrev pub counting : ℕ → ℕ → ℕ → Made → ℕ → List Terminal → List AmountList → CommandRow
+counting width values indexes makes tokens terminals lists = row 0 width values indexes makes [] (λ n. replicate tokens (op 0)) terminals lists
 
 abbrev pub stepped : Command → ℕ → Summary → Stepped
 stepped c length s = steppedBy (commandRow c) length s

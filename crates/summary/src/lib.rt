@@ -5,8 +5,8 @@ ghost use mathlib.Core.Path.{_≡_};
 ghost use Prim.Native.Nat.{_≤_};
 ghost use Rattle.semantics.specs.declared.AmountList.{AmountList};
 ghost use Rattle.semantics.specs.declared.Terminal.{Terminal};
-ghost use Rattle.semantics.specs.Code.{Made, commandOf, other, row};
-ghost use Rattle.summary.specs.Step.{Inside, counted, larger, mostTokens, ruled, stepped, steppedBy};
+ghost use Rattle.semantics.specs.Code.{Made, commandOf, other};
+ghost use Rattle.summary.specs.Step.{Inside, counted, counting, larger, mostTokens, ruled, stepped, steppedBy};
 
 // What is known of the oracle rule after some terminals.
 pub enum Rule {
@@ -83,7 +83,7 @@ fn raised(taken: usize, most: usize, waiting: usize) -> usize
 // A command that makes an index.
 fn index(width: usize, taken: usize, tokens: u32, length: usize, s: Summary) -> Stepped
     requires { ⌜ (tokens ≤ mostTokens) × Inside length s ⌝ }
-    ensures { λ r. ⌜ r ≡ steppedBy (row 0 width 0 taken Made.index tokens [] []) length s ⌝ }
+    ensures { λ r. ⌜ r ≡ steppedBy (counting width 0 taken Made.index tokens [] []) length s ⌝ }
 {
     if length - s.bytes - 1 < width {
         return Stepped::Failed;
@@ -109,7 +109,7 @@ fn index(width: usize, taken: usize, tokens: u32, length: usize, s: Summary) -> 
 // A value terminal that takes nothing and is no lookup.
 fn leaf(width: usize, tokens: u32, terminal: Terminal, length: usize, s: Summary) -> Stepped
     requires { ⌜ (tokens ≤ mostTokens) × Inside length s ⌝ }
-    ensures { λ r. ⌜ r ≡ steppedBy (row 0 width 0 0 Made.value tokens (terminal ∷ []) []) length s ⌝ }
+    ensures { λ r. ⌜ r ≡ steppedBy (counting width 0 0 Made.value tokens (terminal ∷ []) []) length s ⌝ }
 {
     if length - s.bytes - 1 < width {
         return Stepped::Failed;
@@ -135,7 +135,7 @@ fn leaf(width: usize, tokens: u32, terminal: Terminal, length: usize, s: Summary
 // An amount of a list, at so many indexes: that of the current input takes none.
 fn lookup(taken: usize, tokens: u32, length: usize, s: Summary) -> Stepped
     requires { ⌜ (tokens ≤ mostTokens) × Inside length s ⌝ }
-    ensures { λ r. ⌜ r ≡ steppedBy (row 0 0 0 taken Made.value tokens other (AmountList.Input ∷ [])) length s ⌝ }
+    ensures { λ r. ⌜ r ≡ steppedBy (counting 0 0 taken Made.value tokens other (AmountList.Input ∷ [])) length s ⌝ }
 {
     if s.indexes != taken {
         return Stepped::Failed;
@@ -158,7 +158,7 @@ fn lookup(taken: usize, tokens: u32, length: usize, s: Summary) -> Stepped
 // An operation on one or two values.
 fn operation(taken: usize, tokens: u32, length: usize, s: Summary) -> Stepped
     requires { ⌜ (1 ≤ taken) × (tokens ≤ mostTokens) × Inside length s ⌝ }
-    ensures { λ r. ⌜ r ≡ steppedBy (row 0 0 taken 0 Made.value tokens [] []) length s ⌝ }
+    ensures { λ r. ⌜ r ≡ steppedBy (counting 0 taken 0 Made.value tokens [] []) length s ⌝ }
 {
     if s.values < taken {
         return Stepped::Failed;
@@ -183,7 +183,7 @@ fn operation(taken: usize, tokens: u32, length: usize, s: Summary) -> Stepped
 // A comparison of two values, which is a condition.
 fn comparison(tokens: u32, length: usize, s: Summary) -> Stepped
     requires { ⌜ (tokens ≤ mostTokens) × Inside length s ⌝ }
-    ensures { λ r. ⌜ r ≡ steppedBy (row 0 0 2 0 Made.condition tokens [] []) length s ⌝ }
+    ensures { λ r. ⌜ r ≡ steppedBy (counting 0 2 0 Made.condition tokens [] []) length s ⌝ }
 {
     if s.values != 2 {
         return Stepped::Failed;

@@ -4,14 +4,14 @@ use mathlib.Core.Path.{refl, ap, _∙_}
 use mathlib.Core.List.{[]}
 use borrow.Author.Needs.{needs}
 use native.Mathlib.Omega.{arith}
-use Rattle.semantics.specs.Code.{CommandRow, Made, row}
-use Rattle.summary.specs.Step.{larger}
-use Rattle.summary.proofs.Rows.{enough-ge, enough-lt, lacks, next-is, passes, short}
+use Rattle.semantics.specs.Code.{CommandRow, Made}
+use Rattle.summary.specs.Step.{counting, larger}
+use Rattle.summary.proofs.Rows.{added, enough-ge, enough-lt, lacks, next-is, passes, short}
 use Rattle.summary.proofs.index.Statement.{statement}
 use Rattle.summary.proofs.index.Tie as tie
 
 abbrev own : tie.Start → CommandRow
-own b = row 0 (b .args .width) 0 (b .args .taken) Made.index (b .args .tokens) [] []
+own b = counting (b .args .width) 0 (b .args .taken) Made.index (b .args .tokens) [] []
 
 returns : tie.Need-returns
 returns c = let b = c .before .before in short (own b) (b .args .length) (b .args .s) (c .if1 .taken)
@@ -27,7 +27,7 @@ returns-3 c =
     let b = t .before .before .before .before in
     let s = b .args .s in
     passes (own b) (b .args .length) s _ (t .before .before .if1 .left) (enough-ge (b .args .taken) (s .indexes) (t .if2 .left))
-    (next-is (own b) (b .args .length) s refl (omega arith) refl (omega arith) refl refl refl (omega arith)
+    (next-is (own b) (b .args .length) s refl (omega arith) refl (omega arith) (added (s .tokens) (b .args .tokens)) refl refl (omega arith)
     (c .raised .ensures ∙ ap (larger (s .most)) (omega arith)))
 
 pub index-spec : {M : Type 1} → statement M

@@ -5,15 +5,15 @@ use mathlib.Core.List.{[], _∷_}
 use borrow.Author.Needs.{needs}
 use borrow.Author.Tests.{eq-eqb, ne-eqb}
 use native.Mathlib.Omega.{arith}
-use Rattle.semantics.specs.Code.{CommandRow, Made, row}
-use Rattle.summary.specs.Step.{larger}
+use Rattle.semantics.specs.Code.{CommandRow, Made}
+use Rattle.summary.specs.Step.{counting, larger}
 use Rattle.summary.proofs.Bounds.{counted-add, counted-le}
-use Rattle.summary.proofs.Rows.{lacks, next-is, passes, short}
+use Rattle.summary.proofs.Rows.{added, lacks, next-is, passes, short}
 use Rattle.summary.proofs.leaf.Statement.{statement}
 use Rattle.summary.proofs.leaf.Tie as tie
 
 abbrev own : tie.Start → CommandRow
-own b = row 0 (b .args .width) 0 0 Made.value (b .args .tokens) (b .args .terminal ∷ []) []
+own b = counting (b .args .width) 0 0 Made.value (b .args .tokens) (b .args .terminal ∷ []) []
 
 returns : tie.Need-returns
 returns c = let b = c .before .before in short (own b) (b .args .length) (b .args .s) (c .if1 .taken)
@@ -29,7 +29,7 @@ returns-3 c =
     let b = t .before .before .before .before in
     let s = b .args .s in
     passes (own b) (b .args .length) s _ (t .before .before .if1 .left) (eq-eqb (s .indexes) 0 (t .if2 .left))
-    (next-is (own b) (b .args .length) s refl (omega arith) (omega arith) (omega arith) refl
+    (next-is (own b) (b .args .length) s refl (omega arith) (omega arith) (omega arith) (added (s .tokens) (b .args .tokens))
     (omega (arith, counted-add (s .oracles) (b .args .terminal), c .before .before .before .oracles-of .ensures)) (c .before .next-rule .ensures) (omega arith)
     (c .raised .ensures ∙ ap (larger (s .most)) (omega (arith, t .if2 .left))))
 

@@ -6,14 +6,14 @@ use borrow.Author.Needs.{needs}
 use borrow.Author.Tests.{eq-eqb, ne-eqb}
 use native.Mathlib.Omega.{arith}
 use Rattle.semantics.specs.declared.AmountList.{AmountList}
-use Rattle.semantics.specs.Code.{CommandRow, Made, other, row}
-use Rattle.summary.specs.Step.{larger}
-use Rattle.summary.proofs.Rows.{lacks, next-is, passes}
+use Rattle.semantics.specs.Code.{CommandRow, Made, other}
+use Rattle.summary.specs.Step.{counting, larger}
+use Rattle.summary.proofs.Rows.{added, lacks, next-is, passes}
 use Rattle.summary.proofs.lookup.Statement.{statement}
 use Rattle.summary.proofs.lookup.Tie as tie
 
 abbrev own : tie.Start → CommandRow
-own b = row 0 0 0 (b .args .taken) Made.value (b .args .tokens) other (AmountList.Input ∷ [])
+own b = counting 0 0 (b .args .taken) Made.value (b .args .tokens) other (AmountList.Input ∷ [])
 
 returns : tie.Need-returns
 returns c =
@@ -27,7 +27,7 @@ returns-2 c =
     let s = b .args .s in
     let q = t .if1 .left in
     passes (own b) (b .args .length) s _ (omega arith) (eq-eqb (s .indexes) (b .args .taken) q)
-    (next-is (own b) (b .args .length) s (omega arith) (omega arith) (omega (arith, q)) (omega arith) refl refl (c .before .before .next-rule .ensures) refl
+    (next-is (own b) (b .args .length) s (omega arith) (omega arith) (omega (arith, q)) (omega arith) (added (s .tokens) (b .args .tokens)) refl (c .before .before .next-rule .ensures) refl
     (c .raised .ensures ∙ ap (larger (s .most)) (omega (arith, q))))
 
 pub lookup-spec : {M : Type 1} → statement M

@@ -5,13 +5,14 @@ use mathlib.Core.List.{[]}
 use borrow.Author.Needs.{needs}
 use borrow.Author.Tests.{eq-eqb, ne-eqb}
 use native.Mathlib.Omega.{arith}
-use Rattle.semantics.specs.Code.{CommandRow, Made, row}
-use Rattle.summary.proofs.Rows.{enough-ge, enough-lt, lacks, larger-kept, next-is, passes}
+use Rattle.semantics.specs.Code.{CommandRow, Made}
+use Rattle.summary.specs.Step.{counting}
+use Rattle.summary.proofs.Rows.{added, enough-ge, enough-lt, lacks, larger-kept, next-is, passes}
 use Rattle.summary.proofs.operation.Statement.{statement}
 use Rattle.summary.proofs.operation.Tie as tie
 
 abbrev own : tie.Start → CommandRow
-own b = row 0 0 (b .args .taken) 0 Made.value (b .args .tokens) [] []
+own b = counting 0 (b .args .taken) 0 Made.value (b .args .tokens) [] []
 
 returns : tie.Need-returns
 returns c =
@@ -32,7 +33,7 @@ returns-3 c =
     let e = t .before .before .if1 .left in
     let q = t .if2 .left in
     passes (own b) (b .args .length) s _ (omega arith) (rw (enough-ge (b .args .taken) (s .values) e, eq-eqb (s .indexes) 0 q))
-    (next-is (own b) (b .args .length) s (omega arith) refl (omega arith) (omega arith) refl refl refl (omega arith)
+    (next-is (own b) (b .args .length) s (omega arith) refl (omega arith) (omega arith) (added (s .tokens) (b .args .tokens)) refl refl (omega arith)
     (larger-kept (s .most) _ (omega (arith, e, q, b .pre .0, b .pre .2 .small .waiting))))
 
 pub operation-spec : {M : Type 1} → statement M
