@@ -17,14 +17,14 @@ use Rattle.semantics.specs.Evaluate.{Evaluation, Lent, ended, endsSound, envSou
 use Rattle.semantics.specs.Evaluation.{evalArith, popping}
 use Rattle.semantics.specs.Parse.{fold, instructions}
 use Rattle.semantics.proofs.Passing.{Passed, answered-refused, passed}
-use Rattle.semantics.proofs.Run.{run-code}
+use Rattle.stacks.proofs.Run.{run-code}
 use Rattle.summary.specs.declared.Summary.{Summary}
 use Rattle.condition.specs.declared.Examined.{Examined}
 use Rattle.condition.specs.Walk.{examined}
 use Rattle.condition.proofs.Checks.{checked-walk}
 use Rattle.witness.specs.Elements.{leftOf, stateOf}
 use Rattle.evaluation.specs.Run.{Answers}
-use Rattle.semantics.specs.Run.{Run, runStep}
+use Rattle.stacks.specs.Run.{Run, runStep}
 
 -- before the first step
 initial-state : (l : Lent) → stateOf (l .witness) (l .ends) (l .buffer) (length (l .ends)) 0 ≡ initial l

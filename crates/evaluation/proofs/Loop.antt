@@ -32,8 +32,8 @@ use Rattle.evaluation.proofs.Moves.{Moves, Supplied}
 use Rattle.stacks.specs.Stacks.{Ready, moveOf, waiting}
 use Rattle.witness.proofs.Elements.{left-count}
 use Rattle.slices.proofs.Stack.{length-stack}
-use Rattle.semantics.specs.Run.{Run, act, concluded, lookAt, moved, onIndex, onValue, operand, pushValue, runStep}
-use Rattle.semantics.proofs.Run.{value-moved}
+use Rattle.stacks.specs.Run.{Run, act, concluded, lookAt, moved, onIndex, onValue, operand, pushValue, runStep}
+use Rattle.stacks.proofs.Run.{value-moved}
 
 -- ---- how many wait after a command that goes on
 

@@ -13,8 +13,8 @@ use Rattle.semantics.specs.Code.{commandRow}
 use Rattle.semantics.specs.Evaluate.{endsSound}
 use Rattle.semantics.specs.Evaluation.{Env, Outcome, State, amount, amounts, oracle, popping}
 use Rattle.semantics.specs.Parse.{after, commandAt, fold, instructions, operandsAt}
-use Rattle.semantics.specs.Run.{Move, Run, act, afterLook, fetched, move, moved, onValue, pushValue, runStep}
-use Rattle.semantics.proofs.Run.{fetched-moved, value-moved}
+use Rattle.stacks.specs.Run.{Move, Run, act, afterLook, fetched, move, moved, onValue, pushValue, runStep}
+use Rattle.stacks.proofs.Run.{fetched-moved, value-moved}
 use Rattle.commands.specs.declared.Cursor.{Cursor}
 use Rattle.commands.specs.Cursor.{cursorAt}
 use Rattle.condition.specs.Walk.{Passed}

@@ -12,7 +12,7 @@ use Rattle.summary.specs.declared.Summary.{Summary}
 use Rattle.semantics.specs.declared.Value.{Value}
 use Rattle.semantics.specs.Evaluation.{Env, State}
 use Rattle.semantics.specs.Parse.{after, commandAt, operandsAt}
-use Rattle.semantics.specs.Run.{Move, Run, fetched, move, onValue}
+use Rattle.stacks.specs.Run.{Move, Run, fetched, move, onValue}
 use Rattle.stacks.specs.declared.Turn.{Turn}
 use Rattle.stacks.specs.Stacks.{Ready, moveOf, waiting}
 use Rattle.witness.specs.Oracle.{keyAt, timeAt}
@@ -39,7 +39,7 @@ pub record Fetches (code : List ℕ) (values indexes : List ℤ) (s : Spot) : Ty
   pub operands : s .at + 1 + commandRow (commandAt code (s .at)) .width ≤ length code
   pub ready : Ready (commandAt code (s .at)) (s .values) (s .indexes) values indexes
 
--- what is next, as what the machine of semantics/specs/Run.antt does with the operands that wait
+-- what is next, as what Run.antt of stacks does with the operands that wait
 abbrev pub nextMove : List ℕ → List ℤ → List ℤ → Next → Move
 nextMove code values indexes (Next.Command t) = Move.on (waiting values (t .values)) (waiting indexes (t .indexes))
 nextMove code values indexes (Next.Oracle t) = Move.ask (keyAt code (t .at)) (timeAt code (t .at)) (waiting values (t .values)) (waiting indexes (t .indexes))

@@ -17,7 +17,7 @@ ghost use Rattle.condition.specs.Walk.{Passed};
 ghost use Rattle.amounts.specs.Lists.{envOf};
 ghost use Rattle.witness.specs.Elements.{stateOf};
 ghost use Rattle.evaluation.specs.Run.{Answers};
-ghost use Rattle.semantics.specs.Run.{Run, runStep};
+ghost use Rattle.stacks.specs.Run.{Run, runStep};
 
 mod run;
 

@@ -23,7 +23,7 @@ ghost use Rattle.amounts.specs.Lists.{envOf};
 ghost use Rattle.witness.specs.Elements.{stateOf};
 ghost use Rattle.evaluation.specs.Run.{Answers, Fetched, Fetches, Pushed, Room, nextAfter, nextOf};
 ghost use Rattle.stacks.specs.Stacks.{moveOf, waiting};
-ghost use Rattle.semantics.specs.Run.{Run, onValue, runStep};
+ghost use Rattle.stacks.specs.Run.{Run, onValue, runStep};
 
 // Key and time of an oracle terminal.
 const ORACLE_BYTES: usize = 40;

@@ -22,6 +22,5 @@ pub mod Meaning
 pub mod ToldApart
 pub mod RoundTrip
 pub mod KeyBuffers
-pub mod Run
 pub mod Examples
 pub mod Readings

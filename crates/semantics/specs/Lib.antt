@@ -14,4 +14,3 @@ pub mod Records
 pub mod Write
 pub mod Decode
 pub mod Meaning
-pub mod Run

@@ -1,4 +1,4 @@
--- The operands that wait as the code holds them, in two arrays, and what a command does with them: the machine of semantics/specs/Run.antt.
+-- The operands that wait as the code holds them, in two arrays, and what a command does with them: that of Run.antt.
 use Prim.Native.Nat.{ℕ, _+_, _<_}
 use mathlib.Core.Bool.{true}
 use mathlib.Core.Logic.{_⊎_}
@@ -10,7 +10,7 @@ use Rattle.slices.specs.Stack.{stackOf}
 use Rattle.slices.specs.Bytes.{bytesValue}
 use Rattle.semantics.specs.declared.Command.{Command}
 use Rattle.semantics.specs.Code.{commandRow, needMet}
-use Rattle.semantics.specs.Run.{Move}
+use Rattle.stacks.specs.Run.{Move}
 use Rattle.stacks.specs.declared.Effect.{Effect}
 use Rattle.stacks.specs.declared.Turn.{Turn}
 

@@ -18,7 +18,7 @@ ghost use Rattle.index64.specs.Steps.{stepped};
 ghost use Rattle.semantics.specs.Operations.{binRow, cmpRow, idxRow, unRow};
 ghost use Rattle.semantics.specs.Code.{commandRow};
 ghost use Rattle.semantics.specs.declared.Command.{Command};
-ghost use Rattle.semantics.specs.Run.{Move, lookAt, move, onIndex, onValue, operand};
+ghost use Rattle.stacks.specs.Run.{Move, lookAt, move, onIndex, onValue, operand};
 ghost use Rattle.stacks.specs.Stacks.{OracleOnly, Ready, effectOf, moveOf, waiting};
 
 // What a command leads to: so many values and indexes that wait, or the end of the evaluation.

@@ -8,15 +8,18 @@ use lib.Seq.{take-at, drop-at}
 use lib.IntN.{ℤ}
 use Rattle.slices.specs.Bytes.{littleEndian}
 use Rattle.slices.proofs.Bytes.{value-of-bytes}
-use Rattle.semantics.specs.Operations.{Value, binRow, cmpRow, idxRow, unRow}
-use Rattle.semantics.specs.Code.{Command, code}
+use Rattle.semantics.specs.declared.Value.{Value}
+use Rattle.semantics.specs.Operations.{binRow, cmpRow, idxRow, unRow}
+use Rattle.semantics.specs.declared.AmountList.{AmountList}
+use Rattle.semantics.specs.declared.Command.{Command}
+use Rattle.semantics.specs.Code.{code}
 use Rattle.semantics.specs.Evaluation.{Env, Outcome, Terminals, amount, amounts, err, eval, evalArith, index, lookedUp, ok, onward, optionThen, outcome}
 use Rattle.semantics.specs.Parse.{fold, instructions}
-use Rattle.semantics.specs.Refusals.{Refusal}
-use Rattle.semantics.specs.Run.{Move, Run, afterLook, fetched, lookAt, moved, onIndex, onValue, pushValue, runStep}
-use Rattle.semantics.specs.Trees.{AmountList, Arith, Expr, IdxExpr}
+use Rattle.semantics.specs.declared.Refusal.{Refusal}
+use Rattle.stacks.specs.Run.{Move, Run, afterLook, fetched, lookAt, moved, onIndex, onValue, pushValue, runStep}
+use Rattle.semantics.specs.Trees.{Arith, Expr, IdxExpr}
 use Rattle.semantics.proofs.Encodable.{Encodable, ExprEncodable, IdxEncodable}
 use Rattle.semantics.proofs.Machine.{fold-code, onArith, onExpr, onIdx}
 
 -- whatever the state, and whatever the terminals do with it
 module _ {S : Type 0} (t : Terminals S) (env : Env) where

@@ -9,12 +9,13 @@ use lib.IntN.{ℤ, pos}
 use Rattle.word64.specs.Bits.{signedOf}
 use Rattle.index64.specs.Steps.{inRange}
 use Rattle.slices.specs.Bytes.{bytesValue}
-use Rattle.semantics.specs.Operations.{Value, binRow, cmpRow, idxRow, unRow}
-use Rattle.semantics.specs.Code.{Command}
+use Rattle.semantics.specs.declared.Value.{Value}
+use Rattle.semantics.specs.Operations.{binRow, cmpRow, idxRow, unRow}
+use Rattle.semantics.specs.declared.AmountList.{AmountList}
+use Rattle.semantics.specs.declared.Command.{Command}
 use Rattle.semantics.specs.Evaluation.{Env, Outcome, Terminals, amount, amounts, err, lookedUp, ok}
-use Rattle.semantics.specs.Refusals.{Refusal}
-use Rattle.semantics.specs.Trees.{AmountList}
+use Rattle.semantics.specs.declared.Refusal.{Refusal}
 use Rattle.semantics.specs.declared.Verdict.{Verdict}
 
 -- WHAT A COMMAND DOES with the operands that wait, whatever the state: these values and indexes wait then; or the amount of a list at an index, or the
 -- value of an oracle terminal with a key and a time, is still to be pushed on the values; or the evaluation ends.
