@@ -13,12 +13,13 @@ use Rattle.semantics.specs.declared.Command.{Command}
 use Rattle.semantics.specs.declared.Refusal.{Refusal}
 use Rattle.semantics.specs.Check.{checked, firstOf, unless}
 use Rattle.semantics.specs.Code.{commandOf, commandRow, needMet, maxCode, maxTokens}
-use Rattle.semantics.specs.Parse.{Instruction, Walk, given, after, commandAt, fold, instructions, passes}
-use Rattle.semantics.proofs.Counts.{given-one}
+use Rattle.semantics.specs.Parse.{Instruction, Walk, after, commandAt, fold, instructions, passes}
+use Rattle.summary.proofs.Counts.{given-one}
 use Rattle.semantics.proofs.Instructions.{need-known}
 use Rattle.semantics.proofs.Machine.{refused-stays}
 use Rattle.semantics.proofs.Tests.{and-true}
 use Rattle.summary.specs.declared.Summary.{Summary}
+use Rattle.summary.specs.Step.{given}
 use Rattle.summary.proofs.Bounds.{modest, oracles-grow, some-token}
 use Rattle.summary.proofs.Rows.{larger-most}
 use Rattle.condition.specs.declared.Examined.{Examined}

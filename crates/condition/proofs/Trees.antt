@@ -17,7 +17,7 @@ use Rattle.semantics.specs.Oracle.{terminals}
 use Rattle.semantics.specs.Parse.{Waiting, Walk, built, fold, instructions, lengths, nothing, passes, treeStep, walkStep}
 use Rattle.semantics.specs.Token.{exprForm, form, idxForm}
 use Rattle.semantics.specs.Trees.{Arith, Expr, IdxExpr}
-use Rattle.semantics.proofs.Counts.{lengths-built}
+use Rattle.summary.proofs.Counts.{lengths-built}
 use Rattle.semantics.proofs.Machine.{fold-map}
 use Rattle.semantics.proofs.ParseCode.{waiting}
 use Rattle.semantics.proofs.Tests.{and-true}

@@ -10,7 +10,7 @@ use Rattle.semantics.specs.Code.{commandRow}
 use Rattle.semantics.specs.Evaluate.{Evaluation, ended}
 use Rattle.summary.specs.declared.Summary.{Summary}
 use Rattle.semantics.specs.declared.Value.{Value}
-use Rattle.semantics.specs.Evaluation.{Env, State}
+use Rattle.semantics.specs.Evaluation.{Env, State, checkSize}
 use Rattle.semantics.specs.Parse.{after, commandAt, operandsAt}
 use Rattle.stacks.specs.Run.{Move, Run, fetched, move, onValue}
 use Rattle.stacks.specs.declared.Turn.{Turn}
@@ -67,7 +67,7 @@ Pushed s values values′ price (Next.Ended r) =
 
 -- there is room for the operands that wait, and for the checks
 abbrev pub Room : ℕ → ℕ → ℕ → Summary → Type 0
-Room values indexes size s = (s .most < values) × (s .most < indexes) × (112 * s .oracles ≤ size)
+Room values indexes size s = (s .most < values) × (s .most < indexes) × (checkSize * s .oracles ≤ size)
 
 -- what a run that has stopped answers
 abbrev pub Answers : List ℕ → Run State → Evaluation → Type 0

@@ -11,7 +11,7 @@ ghost use mathlib.Core.List.{[]};
 ghost use Prim.Native.Nat.{_*_, _≤_};
 ghost use lib.ListN.{length};
 ghost use Rattle.semantics.specs.Evaluate.{endsSound, evaluated};
-ghost use Rattle.semantics.specs.Evaluation.{popping};
+ghost use Rattle.semantics.specs.Evaluation.{checkSize, popping};
 ghost use Rattle.semantics.specs.Parse.{fold, instructions};
 ghost use Rattle.condition.specs.Walk.{Passed};
 ghost use Rattle.amounts.specs.Lists.{envOf};
@@ -44,7 +44,7 @@ fn run_passed(
     most: usize,
 ) -> Evaluated
     requires { ⌜ endsSound 0 (length (now witness)) (now ends) ≡ true ⌝ }
-    requires { ⌜ Passed (now code) (λ s. (s .most ≡ most) × (112 * s .oracles ≤ length (now out))) ⌝ }
+    requires { ⌜ Passed (now code) (λ s. (s .most ≡ most) × (checkSize * s .oracles ≤ length (now out))) ⌝ }
     ensures { λ r. ⌜ Answers (now (out .entry)) (fold (runStep popping (envOf (now (spent .entry)) (now («spent_marks» .entry)) (now (outputs .entry)) (now («output_marks» .entry)) (now (issued .entry)) (now («issued_marks» .entry)) (now (reissued .entry)) (now («reissued_marks» .entry)) current)) (Run.going [] [] (stateOf (now (witness .entry)) (now (ends .entry)) (now (out .entry)) (length (now (ends .entry))) 0)) (instructions (now (code .entry)))) (record { answer = r; buffer = now (out .exit) }) ⌝ }
 {
     if most < FEW {

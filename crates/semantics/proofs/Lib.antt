@@ -2,9 +2,9 @@
 pub mod Tests
 pub mod Refusals
 pub mod Encodable
+pub mod Needs
 pub mod Instructions
 pub mod Machine
-pub mod Counts
 pub mod ParseCode
 pub mod CodeParse
 pub mod Passing

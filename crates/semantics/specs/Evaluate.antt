@@ -9,7 +9,7 @@ use lib.Dec.{eqb, leb}
 use Rattle.semantics.specs.Trees.{Arith}
 use Rattle.semantics.specs.Refusals.{Refusal}
 use Rattle.semantics.specs.Oracle.{oracles}
-use Rattle.semantics.specs.Evaluation.{Amounts, Env, State, Outcome, ok, err, evalArith, popping}
+use Rattle.semantics.specs.Evaluation.{Amounts, Env, State, Outcome, ok, err, checkSize, evalArith, popping}
 use Rattle.semantics.specs.Check.{firstOf, unless, Condition, condition}
 pub use Rattle.semantics.specs.declared.Verdict.{Verdict}
 pub use Rattle.semantics.specs.declared.Evaluated.{Evaluated}
@@ -78,7 +78,7 @@ evaluatedTree a l =
     unlessRefused
     (firstOf
     (unless (envSound (l .env)) Refusal.AmountsUnsound ∷ unless (endsSound 0 (length (l .witness)) (l .ends)) Refusal.WitnessUnsound
-    ∷ unless (leb (112 * oracles a) (length (l .buffer))) Refusal.BufferTooShort ∷ []))
+    ∷ unless (leb (checkSize * oracles a) (length (l .buffer))) Refusal.BufferTooShort ∷ []))
     l (ended (l .buffer) (evalArith popping (l .env) a (initial l)))
 
 abbrev pub evaluatedBy : Condition → Lent → Evaluation

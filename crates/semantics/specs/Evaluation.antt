@@ -120,6 +120,9 @@ abbrev pub inFuture : ℕ → ℕ → Bool
 inFuture time witnessTime = ltZ (signedOf witnessTime) (signedOf time)
 
 -- "a check of 112 bytes ..: key, .. time, price, signature", and R-8: "the listed check carries the witness time"
+abbrev pub checkSize : ℕ
+checkSize = 112
+
 abbrev pub checkBytes : List ℕ → List ℕ → List ℕ → List ℕ → List ℕ
 checkBytes key witnessTime price signature = key ++ witnessTime ++ price ++ signature
 

@@ -1,11 +1,11 @@
 -- The condition that code stands for, or refusal 2's offset: a walk over the commands with the trees that wait ("Condition code").
-use Prim.Native.Nat.{ℕ, zero, suc, _+_, _-_}
+use Prim.Native.Nat.{ℕ, zero, suc, _+_}
 use mathlib.Core.Bool.{Bool, _&&_, cond}
 use mathlib.Core.List.{List, [], _∷_}
 use lib.ListN.{length, getD, take, drop}
 use lib.Dec.{eqb}
 use Rattle.slices.specs.Bytes.{bytesValue}
-use Rattle.semantics.specs.Code.{Command, CommandRow, Made, commandOf, commandRow, needMet}
+use Rattle.semantics.specs.Code.{Command, commandOf, commandRow, needMet}
 use Rattle.semantics.specs.Trees.{IdxExpr, Expr, Arith}
 
 -- a command's byte, with as many of its operand bytes as are there
@@ -35,22 +35,6 @@ pub record Counts : Type 0 where
   pub values : ℕ
   pub indexes : ℕ
   pub conditions : ℕ
-
--- one of what a command makes
-abbrev pub given : Made → Counts
-given Made.nothing = record { values = 0; indexes = 0; conditions = 0 }
-given Made.index = record { values = 0; indexes = 1; conditions = 0 }
-given Made.value = record { values = 1; indexes = 0; conditions = 0 }
-given Made.condition = record { values = 0; indexes = 0; conditions = 1 }
-
--- how many wait after a command: less what it takes, and what it gives
-abbrev pub countsAfter : CommandRow → Counts → Counts
-countsAfter r s =
-    record {
-      values = s .values - r .values + given (r .makes) .values;
-      indexes = s .indexes - r .indexes + given (r .makes) .indexes;
-      conditions = s .conditions + given (r .makes) .conditions;
-    }
 
 -- a command passes if it follows no comparison, its operand bytes are there and its need is met
 abbrev pub passes : Command → List ℕ → Counts → Bool

@@ -13,11 +13,10 @@ use Rattle.semantics.specs.declared.IdxOp.{IdxOp}
 use Rattle.semantics.specs.declared.Terminal.{Terminal}
 use Rattle.semantics.specs.declared.UnOp.{UnOp}
 use Rattle.semantics.specs.Code.{CommandRow, commandRow, known, maxCode, tokenCount}
-use Rattle.semantics.specs.Parse.{given}
-use Rattle.semantics.proofs.Counts.{given-one}
 use Rattle.semantics.proofs.Heads.{binOp-long, cmp-long, idxOp-long, list-long, unOp-long}
 use Rattle.summary.specs.declared.Summary.{Summary}
 use Rattle.summary.specs.Step.{Inside, Small, counted, foldTerminals, mostTokens, next}
+use Rattle.summary.proofs.Counts.{given-one}
 use Rattle.summary.proofs.Rows.{larger-most}
 
 -- a terminal is at most one oracle terminal

@@ -9,11 +9,10 @@ use lib.ListN.{length, length-replicate, replicate}
 use Rattle.semantics.specs.declared.Command.{Command}
 use Rattle.semantics.specs.Code.{CommandRow, commandRow, enough, needMet, tokenCount}
 use Rattle.semantics.specs.Operations.{op}
-use Rattle.semantics.specs.Parse.{given}
 use Rattle.summary.specs.declared.Rule.{Rule}
 use Rattle.summary.specs.declared.Stepped.{Stepped}
 use Rattle.summary.specs.declared.Summary.{Summary}
-use Rattle.summary.specs.Step.{counted, foldTerminals, larger, madeAs, nextBy, ruled, stepped, steppedBy}
+use Rattle.summary.specs.Step.{counted, foldTerminals, given, larger, madeAs, nextBy, ruled, stepped, steppedBy}
 
 -- ---- tests
 

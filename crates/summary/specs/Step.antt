@@ -9,7 +9,7 @@ use Rattle.semantics.specs.declared.Command.{Command}
 use Rattle.semantics.specs.declared.Terminal.{Terminal}
 use Rattle.semantics.specs.Code.{CommandRow, Made, commandRow, maxCode, needMet, row, tokenCount}
 use Rattle.semantics.specs.Operations.{op}
-use Rattle.semantics.specs.Parse.{Counts, countsAfter}
+use Rattle.semantics.specs.Parse.{Counts}
 use Rattle.summary.specs.declared.Rule.{Rule}
 use Rattle.summary.specs.declared.Summary.{Summary}
 use Rattle.summary.specs.declared.Stepped.{Stepped}
@@ -34,6 +34,22 @@ ruled Rule.Missing t = Rule.Missing
 abbrev pub foldTerminals : {A : Type 0} → (A → Terminal → A) → A → List Terminal → A
 foldTerminals step a [] = a
 foldTerminals step a (t ∷ ts) = foldTerminals step (step a t) ts
+
+-- one of what a command makes
+abbrev pub given : Made → Counts
+given Made.nothing = record { values = 0; indexes = 0; conditions = 0 }
+given Made.index = record { values = 0; indexes = 1; conditions = 0 }
+given Made.value = record { values = 1; indexes = 0; conditions = 0 }
+given Made.condition = record { values = 0; indexes = 0; conditions = 1 }
+
+-- how many wait after a command: less what it takes, and what it gives
+abbrev pub countsAfter : CommandRow → Counts → Counts
+countsAfter r s =
+    record {
+      values = s .values - r .values + given (r .makes) .values;
+      indexes = s .indexes - r .indexes + given (r .makes) .indexes;
+      conditions = s .conditions + given (r .makes) .conditions;
+    }
 
 abbrev pub larger : ℕ → ℕ → ℕ
 larger a b = cond (ltb a b) b a

@@ -6,7 +6,7 @@ use lib.ListN.{getD, take}
 use lib.Dec.{eqb, leb}
 use Rattle.semantics.specs.declared.Refusal.{Refusal}
 use Rattle.semantics.specs.Evaluate.{elements}
-use Rattle.semantics.specs.Evaluation.{State}
+use Rattle.semantics.specs.Evaluation.{State, checkSize}
 use Rattle.witness.specs.declared.Element.{Element}
 use Rattle.witness.specs.declared.Place.{Place}
 use Rattle.witness.specs.declared.Witness.{Witness}
@@ -44,4 +44,4 @@ leftOf witness ends n = reverse (elements 0 witness (take n ends))
 
 -- the state of evaluation: the checks lie at the front of the buffer
 abbrev pub stateOf : List ℕ → List ℕ → List ℕ → ℕ → ℕ → State
-stateOf witness ends out left checks = record { checks = checks; written = take (112 * checks) out; left = leftOf witness ends left }
+stateOf witness ends out left checks = record { checks = checks; written = take (checkSize * checks) out; left = leftOf witness ends left }

@@ -10,7 +10,7 @@ use Rattle.slices.specs.Bytes.{bytesValue}
 use Rattle.semantics.specs.declared.Refusal.{Refusal}
 use Rattle.semantics.specs.declared.Value.{Value}
 use Rattle.semantics.specs.Evaluate.{endsSound}
-use Rattle.semantics.specs.Evaluation.{Outcome, State, afterSignature, outcome}
+use Rattle.semantics.specs.Evaluation.{Outcome, State, afterSignature, checkSize, outcome}
 use Rattle.witness.specs.declared.Judged.{Judged}
 use Rattle.witness.specs.declared.Place.{Place}
 use Rattle.witness.specs.declared.Witness.{Witness}
@@ -30,7 +30,7 @@ timeAt code at = bytesValue (drop 32 (take 40 (drop at code)))
 -- what an oracle terminal may go by
 pub record Asks (code : List ℕ) (at : ℕ) (witness ends out : List ℕ) (h : Witness) : Type 0 where
   pub operands : at + 40 ≤ length code
-  pub room : 112 * h .checks + 112 ≤ length out
+  pub room : checkSize * h .checks + checkSize ≤ length out
   pub few : h .left ≤ length ends
   pub sound : endsSound 0 (length witness) ends ≡ true
 
@@ -40,7 +40,7 @@ pub record Gives (rest : State → Outcome State ℤ) (witness ends old new : Li
   pub fewer : h′ .left ≤ h .left
   pub more : h .checks ≤ h′ .checks
   pub one : h′ .checks ≤ h .checks + 1
-  pub kept : drop (112 * h′ .checks) new ≡ drop (112 * h′ .checks) old
+  pub kept : drop (checkSize * h′ .checks) new ≡ drop (checkSize * h′ .checks) old
 
 -- an element of a width that was found lies within the bytes
 abbrev pub Lies : List ℕ → ℕ → Place → Type 0
@@ -50,7 +50,7 @@ Lies witness width (Place.Refused x) = Unit {0}
 -- what the three pops gave
 pub record Judges (code : List ℕ) (at : ℕ) (witness out : List ℕ) (checks : ℕ) (price time signature : Place) : Type 0 where
   pub operands : at + 40 ≤ length code
-  pub room : 112 * checks + 112 ≤ length out
+  pub room : checkSize * checks + checkSize ≤ length out
   pub price-lies : Lies witness 8 price
   pub time-lies : Lies witness 8 time
   pub signature-lies : Lies witness 64 signature

@@ -7,7 +7,7 @@ ghost use mathlib.Core.List.{List, _++_};
 ghost use Prim.Native.Nat.{ℕ, _+_, _-_, _*_, _≤_, _<_};
 ghost use lib.ListN.{length, take, drop};
 ghost use Rattle.semantics.specs.Evaluate.{endsSound};
-ghost use Rattle.semantics.specs.Evaluation.{afterSignature, checkBytes, inFuture, oracle};
+ghost use Rattle.semantics.specs.Evaluation.{afterSignature, checkBytes, checkSize, inFuture, oracle};
 ghost use Rattle.witness.specs.Elements.{fewer, placed, popped, takenPlace, takenWitness};
 ghost use Rattle.witness.specs.Oracle.{Asks, Gives, Judges, Settles, keyAt, priced, timeAt};
 
@@ -167,8 +167,8 @@ fn list_check(
     out: &mut [u8],
     n: usize,
 )
-    requires { ⌜ (at + 40 ≤ length (now code)) × (time + 8 ≤ length (now witness)) × (price + 8 ≤ length (now witness)) × (signature + 64 ≤ length (now witness)) × (112 * n + 112 ≤ length (now out)) ⌝ }
-    ensures { λ _. ⌜ now (out .exit) ≡ take (112 * n) (now (out .entry)) ++ checkBytes (keyAt (now (code .entry)) at) (take 8 (drop time (now (witness .entry)))) (take 8 (drop price (now (witness .entry)))) (take 64 (drop signature (now (witness .entry)))) ++ drop (112 * n + 112) (now (out .entry)) ⌝ }
+    requires { ⌜ (at + 40 ≤ length (now code)) × (time + 8 ≤ length (now witness)) × (price + 8 ≤ length (now witness)) × (signature + 64 ≤ length (now witness)) × (checkSize * n + checkSize ≤ length (now out)) ⌝ }
+    ensures { λ _. ⌜ now (out .exit) ≡ take (checkSize * n) (now (out .entry)) ++ checkBytes (keyAt (now (code .entry)) at) (take 8 (drop time (now (witness .entry)))) (take 8 (drop price (now (witness .entry)))) (take 64 (drop signature (now (witness .entry)))) ++ drop (checkSize * n + checkSize) (now (out .entry)) ⌝ }
 {
     let off = CHECK_BYTES * n;
     slices::copy(code, at, out, off, KEY_BYTES);
@@ -201,7 +201,7 @@ fn judge(
     out: &mut [u8],
     checks: usize,
 ) -> Judged
-    requires { ⌜ (at + 40 ≤ length (now code)) × (112 * checks + 112 ≤ length (now out)) × (price + 8 ≤ length (now witness)) × (time + 8 ≤ length (now witness)) × (signature + 64 ≤ length (now witness)) ⌝ }
+    requires { ⌜ (at + 40 ≤ length (now code)) × (checkSize * checks + checkSize ≤ length (now out)) × (price + 8 ≤ length (now witness)) × (time + 8 ≤ length (now witness)) × (signature + 64 ≤ length (now witness)) ⌝ }
     ensures { λ r. ⌜ ((ends : List ℕ) (left : ℕ) → Gives (afterSignature (keyAt (now (code .entry)) at) (timeAt (now (code .entry)) at) (take 8 (drop price (now (witness .entry)))) (take 8 (drop time (now (witness .entry)))) (take 64 (drop signature (now (witness .entry))))) (now (witness .entry)) ends (now (out .entry)) (now (out .exit)) (record { left = left; checks = checks }) (r .value) (record { left = left; checks = r .checks })) ⌝ }
 {
     let terminal_time = slices::read_le64(code, at + KEY_BYTES);

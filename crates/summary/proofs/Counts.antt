@@ -7,10 +7,12 @@ use native.Mathlib.Omega.{arith}
 use borrow.Author.Tests.{eqb-true, leb-true}
 use lib.Dec.{eqb}
 use lib.ListN.{length, drop, length-drop}
-use Rattle.semantics.specs.Code.{Command, Made, commandRow, enough, needOf}
-use Rattle.semantics.specs.Parse.{Counts, Waiting, built, countsAfter, given, lengths, pushIndex, pushValue}
+use Rattle.semantics.specs.declared.Command.{Command}
+use Rattle.semantics.specs.Code.{Made, commandRow, enough, needOf}
+use Rattle.semantics.specs.Parse.{Counts, Waiting, built, lengths, pushIndex, pushValue}
 use Rattle.semantics.specs.Trees.{Expr, IdxExpr}
 use Rattle.semantics.proofs.Tests.{and-true}
+use Rattle.summary.specs.Step.{countsAfter, given}
 
 enough-le : (k n : ℕ) → enough k n ≡ true → k ≤ n
 enough-le zero n e = omega arith
