@@ -1,7 +1,7 @@
 -- The pass that marks the commands: what its loop keeps, and what it comes to.
 use Prim.Native.Nat.{ℕ, _+_, _≤_, _<_}
 use mathlib.Core.Bool.{Bool, true, false}
-use mathlib.Core.Path.{_≡_, refl, sym, ap, _∙_}
+use mathlib.Core.Path.{_≡_, refl, sym, ap, _∙_, subst}
 use mathlib.Core.List.{List, [], _∷_, _++_}
 use native.Mathlib.Numerals.{add-one}
 use native.Mathlib.Omega.{arith}
@@ -9,38 +9,35 @@ use lib.ListN.{getD, length, take, drop, length-drop, length-set, set, take-appe
 use lib.Seq.{length-take-le, take-suc-set}
 use Rattle.slices.specs.Bytes.{All}
 use Rattle.slices.proofs.Bytes.{all-drop}
+use Rattle.slices.proofs.Stack.{length-stack}
 use Rattle.semantics.specs.declared.Command.{Command}
-use Rattle.semantics.specs.Code.{commandOf, commandRow, needMet, maxTokens}
-use Rattle.semantics.specs.Parse.{Instruction, after, commandAt, fold, instructions, operandsAt}
+use Rattle.semantics.specs.Code.{Made, commandRow, needMet, maxTokens}
+use Rattle.semantics.specs.Parse.{after, commandAt, fold, given, instructions, operandsAt}
+use Rattle.semantics.specs.Token.{narrow}
 use Rattle.semantics.proofs.Counts.{given-one}
 use Rattle.semantics.proofs.Machine.{fold-ends, fold-takes}
 use Rattle.summary.specs.declared.Summary.{Summary}
-use Rattle.condition.specs.Walk.{next, start}
-use Rattle.conversions.specs.Marks.{Fits, Found, Marking, Ready, markStep, markingIn, marksOf, narrowCode, narrowStep, settled, stackIn}
-use Rattle.condition.proofs.Ahead.{Ahead, ahead-below, ahead-next, ahead-start, passes-on}
-use Rattle.conversions.proofs.Narrow.{narrow-from}
-use Rattle.slices.proofs.Stack.{length-stack}
+use Rattle.condition.specs.Walk.{Passed, next, start}
+use Rattle.condition.proofs.Position.{Position, passes-on, position-below, position-next, position-start}
+use Rattle.token_table.specs.TokenRows.{ownTokens}
+use Rattle.conversions.specs.Marks.{Found, Marking, Ready, ending, markStep, markingIn, marksOf, narrowCode, narrowStep, settled, stackIn}
+use Rattle.conversions.proofs.Narrow.{narrow-stays}
 
 -- ---- one command
 
 -- as many indexes wait as the walk of Check counts, one more at the most
+ending-count : (m : Made) (k : ℕ) (w : List ℕ) → length (ending m k w) ≡ length w + given m .indexes
+ending-count Made.nothing k w = omega arith
+ending-count Made.index k w = omega arith
+ending-count Made.value k w = omega arith
+ending-count Made.condition k w = omega arith
+
 settled-count : (c : Command) (h : Summary) (s : Marking) → length (s .waiting) ≡ h .indexes
     → (length (settled s c .waiting) ≡ next c h .indexes) × (next c h .indexes ≤ h .indexes + 1)
-settled-count c h s e = (go c, omega (arith, given-one (commandRow c .makes)))
-  where
-    go : (c : Command) → length (settled s c .waiting) ≡ next c h .indexes
-    go Command.Unknown = omega (arith, e)
-    go Command.IdxConst = omega (arith, e)
-    go Command.CurrIdx = omega (arith, e)
-    go (Command.Index o) = omega (arith, e, length-drop 2 (s .waiting))
-    go Command.Const = omega (arith, e)
-    go Command.CurrInputIdx = omega (arith, e)
-    go (Command.Lookup l) = omega (arith, e, length-drop 1 (s .waiting))
-    go (Command.Binary o) = omega (arith, e)
-    go (Command.Unary o) = omega (arith, e)
-    go Command.PriceOracle1 = omega (arith, e)
-    go Command.PriceOracle1W = omega (arith, e)
-    go (Command.Compare o) = omega (arith, e)
+settled-count c h s e =
+    let r = commandRow c in
+    let n = ending-count (r .makes) (length (s .marks)) (drop (r .indexes) (s .waiting)) in
+    (omega (arith, n, length-drop (r .indexes) (s .waiting), e), omega (arith, given-one (r .makes)))
 
 -- the commands that ended them came before
 later : (n : ℕ) (l : List ℕ) → All (λ k. k < n) l → All (λ k. k < n + 1) l
@@ -48,34 +45,29 @@ later n [] h = tt
 later n (k ∷ l) h = (omega (arith, h .0), later n l (h .1))
 
 settled-earlier : (c : Command) (s : Marking) → All (λ k. k < length (s .marks)) (s .waiting) → All (λ k. k < length (s .marks) + 1) (settled s c .waiting)
-settled-earlier Command.Unknown s h = later (length (s .marks)) (s .waiting) h
-settled-earlier Command.IdxConst s h = (omega arith, later (length (s .marks)) (s .waiting) h)
-settled-earlier Command.CurrIdx s h = (omega arith, later (length (s .marks)) (s .waiting) h)
-settled-earlier (Command.Index o) s h = (omega arith, all-drop (λ k. k < length (s .marks) + 1) 2 (s .waiting) (later (length (s .marks)) (s .waiting) h))
-settled-earlier Command.Const s h = later (length (s .marks)) (s .waiting) h
-settled-earlier Command.CurrInputIdx s h = later (length (s .marks)) (s .waiting) h
-settled-earlier (Command.Lookup l) s h = all-drop (λ k. k < length (s .marks) + 1) 1 (s .waiting) (later (length (s .marks)) (s .waiting) h)
-settled-earlier (Command.Binary o) s h = later (length (s .marks)) (s .waiting) h
-settled-earlier (Command.Unary o) s h = later (length (s .marks)) (s .waiting) h
-settled-earlier Command.PriceOracle1 s h = later (length (s .marks)) (s .waiting) h
-settled-earlier Command.PriceOracle1W s h = later (length (s .marks)) (s .waiting) h
-settled-earlier (Command.Compare o) s h = later (length (s .marks)) (s .waiting) h
-
--- a constant that 6 turns down is not made good
-narrow-stays : (ns : List Instruction) → fold narrowStep false ns ≡ false
-narrow-stays [] = refl
-narrow-stays (n ∷ ns) =
-    ap (λ (b : Bool). fold narrowStep b ns) (sym (narrow-from false (commandOf (n .byte)) (n .operands))) ∙ narrow-stays ns
+settled-earlier c s h =
+    let r = commandRow c in
+    go (r .makes) (drop (r .indexes) (s .waiting)) (all-drop (λ k. k < length (s .marks) + 1) (r .indexes) (s .waiting) (later (length (s .marks)) (s .waiting) h))
+  where
+    go : (m : Made) (w : List ℕ) → All (λ k. k < length (s .marks) + 1) w → All (λ k. k < length (s .marks) + 1) (ending m (length (s .marks)) w)
+    go Made.nothing w a = a
+    go Made.index w a = (omega arith, a)
+    go Made.value w a = a
+    go Made.condition w a = a
 
 -- ---- the loop
 
-pub record Loop (code waiting : List ℕ) (marks : List Bool) (at count indexes : ℕ) : Type 0 where
-  pub last : Summary
-  pub few : last .tokens ≤ maxTokens
-  pub waiting-fits : last .tokens ≤ length waiting
-  pub marks-fit : last .tokens ≤ length marks
+-- room for as many operands and marks as there are tokens
+abbrev pub Fits : ℕ → ℕ → Summary → Type 0
+Fits waiting marks s = (s .tokens ≤ waiting) × (s .tokens ≤ marks)
+
+-- `room` and `size` are the lengths of the two arrays
+pub record Loop (code : List ℕ) (room size : ℕ) (waiting : List ℕ) (marks : List Bool) (at count indexes : ℕ) : Type 0 where
+  pub all : Passed code (Fits room size)
   pub here : Summary
-  pub ahead : Ahead code last here at count
+  pub position : Position code (all .last) here at count
+  pub waiting-long : length waiting ≡ room
+  pub marks-long : length marks ≡ size
   pub indexes-are : here .indexes ≡ indexes
   pub height : indexes ≤ count
   pub earlier : All (λ k. k < count) (stackIn waiting indexes)
@@ -83,16 +75,16 @@ pub record Loop (code waiting : List ℕ) (marks : List Bool) (at count indexes 
   pub runs : fold markStep (markingIn waiting indexes marks count) (instructions (drop at code)) .marks ≡ marksOf code
   pub passed : count ≤ length marks
 
-pub loop-start : (code waiting : List ℕ) (marks : List Bool) → Fits code (length waiting) (length marks) → Loop code waiting marks 0 0 0
+pub loop-start : (code waiting : List ℕ) (marks : List Bool) → Passed code (Fits (length waiting) (length marks))
+    → Loop code (length waiting) (length marks) waiting marks 0 0 0
 unfolding narrowCode marksOf
-loop-start code waiting marks f =
+loop-start code waiting marks p =
     record {
-      last = f .last;
-      few = f .few;
-      waiting-fits = f .waiting-fits;
-      marks-fit = f .marks-fit;
+      all = p;
       here = start;
-      ahead = ahead-start code (f .last) (f .walk);
+      position = position-start code (p .last) (p .walk);
+      waiting-long = refl;
+      marks-long = refl;
       indexes-are = refl;
       height = omega arith;
       earlier = tt;
@@ -101,7 +93,7 @@ loop-start code waiting marks f =
       passed = omega arith;
     }
 
-module _ (code waiting : List ℕ) (marks : List Bool) (at count indexes : ℕ) (l : Loop code waiting marks at count indexes) where
+module _ (code : List ℕ) (room size : ℕ) (waiting : List ℕ) (marks : List Bool) (at count indexes : ℕ) (l : Loop code room size waiting marks at count indexes) where
   pub loop-found : length code ≤ at → Found code marks true
   loop-found h =
       let t : take count marks ≡ marksOf code = sym (ap (λ (s : Marking). s .marks) (fold-ends markStep code at h (markingIn waiting indexes marks count))) ∙ l .runs in
@@ -115,14 +107,14 @@ module _ (code waiting : List ℕ) (marks : List Bool) (at count indexes : ℕ) 
     command = commandAt code at
 
     pub loop-operands : at + 1 + commandRow command .width ≤ length code
-    loop-operands = passes-on code (l .last) (l .here) at count (l .ahead) inside .operands
+    loop-operands = passes-on code (l .all .last) (l .here) at count (l .position) inside .operands
 
     pub loop-below : (count < length marks) × (count < maxTokens)
     loop-below =
-        let b = ahead-below code (l .last) (l .here) at count (l .ahead) inside in (omega (arith, b, l .marks-fit), omega (arith, b, l .few))
+        let b = position-below code (l .all .last) (l .here) at count (l .position) inside in (omega (arith, b, l .all .known .1, l .marks-long), omega (arith, b, l .all .few))
 
     need : needMet (commandRow command) (l .here .values) indexes ≡ true
-    need = rw (l .indexes-are) at (passes-on code (l .last) (l .here) at count (l .ahead) inside .met)
+    need = rw (l .indexes-are) at (passes-on code (l .all .last) (l .here) at count (l .position) inside .met)
 
     pub loop-ready : Ready command count indexes waiting marks
     loop-ready =
@@ -131,12 +123,12 @@ module _ (code waiting : List ℕ) (marks : List Bool) (at count indexes : ℕ) 
           met = need;
           count-fits = loop-below .0;
           few = loop-below .1;
-          indexes-fit = omega (arith, ahead-below code (l .last) (l .here) at count (l .ahead) inside, l .height, l .waiting-fits);
+          indexes-fit = omega (arith, position-below code (l .all .last) (l .here) at count (l .position) inside, l .height, l .all .known .0, l .waiting-long);
           earlier = l .earlier;
         }
 
     -- 6 turns the command down
-    pub loop-refused : (any : List Bool) → false ≡ narrowStep true command (operandsAt code at) → Found code any false
+    pub loop-refused : (any : List Bool) → false ≡ narrow (ownTokens command (operandsAt code at)) → Found code any false
     loop-refused any e =
         let w = sym (l .narrow) ∙ fold-takes narrowStep code at inside true ∙ ap (λ (b : Bool). fold narrowStep b (instructions (drop (after code at) code))) (sym e) in
         record {
@@ -145,10 +137,10 @@ module _ (code waiting : List ℕ) (marks : List Bool) (at count indexes : ℕ) 
         }
 
     -- one turn, by what `step` promises
-    pub loop-next : true ≡ narrowStep true command (operandsAt code at) → (waiting′ : List ℕ) (marks′ : List Bool) (indexes′ : ℕ)
+    pub loop-next : true ≡ narrow (ownTokens command (operandsAt code at)) → (waiting′ : List ℕ) (marks′ : List Bool) (indexes′ : ℕ)
         → length waiting′ ≡ length waiting → length marks′ ≡ length marks
         → markingIn waiting′ indexes′ marks′ count ≡ settled (markingIn waiting indexes marks count) command
-        → Loop code waiting′ (set marks′ count false) (after code at) (count + 1) indexes′
+        → Loop code room size waiting′ (set marks′ count false) (after code at) (count + 1) indexes′
     loop-next e waiting′ marks′ indexes′ p q s =
         let old = markingIn waiting indexes marks count in
         let n : length (take count marks) ≡ count = length-take-le count marks (l .passed) in
@@ -158,15 +150,14 @@ module _ (code waiting : List ℕ) (marks : List Bool) (at count indexes : ℕ) 
         let m : take (count + 1) (set marks′ count false) ≡ settled old command .marks ++ false ∷ [] =
         rw (add-one, take-suc-set marks′ count false (omega (arith, q, loop-below .0)), ap (λ (m : Marking). m .marks) s) in
         record {
-          last = l .last;
-          few = l .few;
-          waiting-fits = omega (arith, l .waiting-fits, p);
-          marks-fit = simp length-set (omega (arith, l .marks-fit, q));
+          all = l .all;
           here = next command (l .here);
-          ahead = ahead-next code (l .last) (l .here) at count (l .ahead) inside;
+          position = position-next code (l .all .last) (l .here) at count (l .position) inside;
+          waiting-long = p ∙ l .waiting-long;
+          marks-long = length-set marks′ count false ∙ q ∙ l .marks-long;
           indexes-are = sym i;
           height = omega (arith, i, k .1, l .height, l .indexes-are);
-          earlier = rw w (rw n at (settled-earlier command old (rw n (l .earlier))));
+          earlier = rw w (subst (λ (k : ℕ). All (λ i. i < k + 1) (settled old command .waiting)) n (settled-earlier command old (rw n (l .earlier))));
           narrow =
               ap (λ (b : Bool). fold narrowStep b (instructions (drop (after code at) code))) e ∙ sym (fold-takes narrowStep code at inside true)
               ∙ l .narrow;

@@ -35,10 +35,10 @@ module _ (waiting : List ℕ) (indexes : ℕ) (marks : List Bool) (count : ℕ) 
 
   pub operated : (o : IdxOp) → Ready (Command.Index o) count indexes waiting marks → (left : ℕ) → left ≡ getD waiting (indexes - 2) 0
       → (s : List ℕ) → s ≡ count ∷ stackIn waiting (indexes - 2)
-      → record { waiting = s; marks = take count (set marks left (converts o)) } ≡ settled (markingIn waiting indexes marks count) (Command.Index o)
+      → record { waiting = s; marks = take count (set marks left (converts (Command.Index o))) } ≡ settled (markingIn waiting indexes marks count) (Command.Index o)
   operated o r left e s d =
       let q = ready-index o r in
-      rw (d, e, take-set-lt count marks (getD waiting (indexes - 2) 0) (converts o) (q .2), stack-two (λ k. getD waiting k 0) indexes (q .0), length-take-le count marks (omega (arith, r .count-fits)))
+      rw (d, e, take-set-lt count marks (getD waiting (indexes - 2) 0) (converts (Command.Index o)) (q .2), stack-two (λ k. getD waiting k 0) indexes (q .0), length-take-le count marks (omega (arith, r .count-fits)))
 
   pub ended : (c : Command) → Ready c count indexes waiting marks → (s : List ℕ) → s ≡ count ∷ stackIn waiting indexes
       → _≡_ {A = Marking} (record { waiting = s; marks = take count marks }) (record { waiting = length (take count marks) ∷ stackIn waiting indexes; marks = take count marks })

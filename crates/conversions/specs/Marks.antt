@@ -1,45 +1,42 @@
 -- Which commands are marked, by one pass over the commands with the index operands that wait; and refusal 6 by the same pass.
-use Prim.Native.Nat.{ℕ, _<_, _≤_, _^_}
-use mathlib.Core.Bool.{Bool, true, false, _&&_}
+use Prim.Native.Nat.{ℕ, _<_}
+use mathlib.Core.Bool.{Bool, true, false, _&&_, cond}
 use mathlib.Core.Path.{_≡_}
 use mathlib.Core.List.{List, [], _∷_, _++_}
-use lib.Dec.{ltb}
+use lib.Dec.{eqb, ltb}
 use lib.ListN.{length, getD, take, drop, set}
 use Rattle.slices.specs.Stack.{stackOf}
-use Rattle.slices.specs.Bytes.{All, bytesValue}
+use Rattle.slices.specs.Bytes.{All}
 use Rattle.semantics.specs.declared.Command.{Command}
-use Rattle.semantics.specs.declared.IdxOp.{IdxOp}
-use Rattle.semantics.specs.Code.{commandRow, needMet, maxTokens}
-use Rattle.semantics.specs.Operations.{idxRow}
+use Rattle.semantics.specs.Code.{Made, commandRow, needMet, maxTokens}
 use Rattle.semantics.specs.Parse.{fold, instructions}
-use Rattle.summary.specs.declared.Summary.{Summary}
-use Rattle.condition.specs.declared.Walked.{Walked}
-use Rattle.condition.specs.Walk.{walked}
+use Rattle.semantics.specs.Token.{narrow}
+use Rattle.token_table.specs.TokenRows.{ownTokens}
 
--- whether an operation has a token between its operands' tokens, which is SCRIPTNUMTOLE64
-abbrev pub converts : IdxOp → Bool
-converts o = ltb 0 (length (idxRow o .between))
+-- whether a command has a token more than those that it writes itself: SCRIPTNUMTOLE64, between its operands' tokens
+abbrev pub converts : Command → Bool
+converts c = ltb (length (ownTokens c [])) (commandRow c .tokens)
 
 -- after some commands: of each whether it is marked so far, and the commands that ended the index operands that wait, the last one first
 pub record Marking : Type 0 where
   pub waiting : List ℕ
   pub marks : List Bool
 
--- what a command makes of them: an operation on two indexes settles whether the command that ended its left operand is marked, and ends an operand itself
+-- a command that makes an index ends an operand
+abbrev pub ending : Made → ℕ → List ℕ → List ℕ
+ending Made.nothing k w = w
+ending Made.index k w = k ∷ w
+ending Made.value k w = w
+ending Made.condition k w = w
+
+-- what a command makes of them: an operation on two indexes settles whether the command that ended its left operand is marked
 abbrev pub settled : Marking → Command → Marking
-settled s Command.Unknown = s
-settled s Command.IdxConst = record { waiting = length (s .marks) ∷ s .waiting; marks = s .marks }
-settled s Command.CurrIdx = record { waiting = length (s .marks) ∷ s .waiting; marks = s .marks }
-settled s (Command.Index o) =
-    record { waiting = length (s .marks) ∷ drop 2 (s .waiting); marks = set (s .marks) (getD (s .waiting) 1 0) (converts o) }
-settled s Command.Const = s
-settled s Command.CurrInputIdx = s
-settled s (Command.Lookup l) = record { waiting = drop 1 (s .waiting); marks = s .marks }
-settled s (Command.Binary o) = s
-settled s (Command.Unary o) = s
-settled s Command.PriceOracle1 = s
-settled s Command.PriceOracle1W = s
-settled s (Command.Compare o) = s
+settled s c =
+    let r = commandRow c in
+    record {
+      waiting = ending (r .makes) (length (s .marks)) (drop (r .indexes) (s .waiting));
+      marks = cond (eqb (r .indexes) 2) (set (s .marks) (getD (s .waiting) 1 0) (converts c)) (s .marks);
+    }
 
 -- it is not marked itself so far
 abbrev pub markStep : Marking → Command → List ℕ → Marking
@@ -54,18 +51,7 @@ marksOf code = fold markStep unmarked (instructions code) .marks
 
 -- 6: "an index constant of 2^32 or more"
 abbrev pub narrowStep : Bool → Command → List ℕ → Bool
-narrowStep b Command.Unknown n = b
-narrowStep b Command.IdxConst n = b && ltb (bytesValue n) (2 ^ 32)
-narrowStep b Command.CurrIdx n = b
-narrowStep b (Command.Index o) n = b
-narrowStep b Command.Const n = b
-narrowStep b Command.CurrInputIdx n = b
-narrowStep b (Command.Lookup l) n = b
-narrowStep b (Command.Binary o) n = b
-narrowStep b (Command.Unary o) n = b
-narrowStep b Command.PriceOracle1 n = b
-narrowStep b Command.PriceOracle1W n = b
-narrowStep b (Command.Compare o) n = b
+narrowStep b c n = b && narrow (ownTokens c n)
 
 unfoldable pub narrowCode : List ℕ → Bool
 narrowCode code = fold narrowStep true (instructions code)
@@ -86,14 +72,6 @@ pub record Ready (c : Command) (count indexes : ℕ) (waiting : List ℕ) (marks
   pub few : count < maxTokens
   pub indexes-fit : indexes < length waiting
   pub earlier : All (λ k. k < count) (stackIn waiting indexes)
-
--- code that Check let pass, with room for as many operands and marks as it has tokens
-pub record Fits (code : List ℕ) (waiting marks : ℕ) : Type 0 where
-  pub last : Summary
-  pub walk : walked code ≡ Walked.Ended last
-  pub few : last .tokens ≤ maxTokens
-  pub waiting-fits : last .tokens ≤ waiting
-  pub marks-fit : last .tokens ≤ marks
 
 -- what the pass finds: whether 6 lets the code pass, and then the marks of its commands at the front of the array
 pub record Found (code : List ℕ) (marks : List Bool) (narrow : Bool) : Type 0 where

@@ -1,8 +1,6 @@
 // Where the token form converts an index between operands: after the left operand of an index Mul or Div stands a ScriptNumToLe64.
 // One pass over the commands marks those that end such an operand, and tests refusal 6.
 // `Command::Unknown` is not met: Check has turned down code that has it.
-use commands::command_of;
-use commands::width_of;
 use semantics::Command;
 use semantics::IdxOp;
 ghost use mathlib.Core.Bool.{true};
@@ -12,15 +10,18 @@ ghost use Prim.Native.Nat.{_+_, _≤_, _<_};
 ghost use lib.ListN.{length};
 ghost use Rattle.semantics.specs.declared.Command.{Command};
 ghost use Rattle.semantics.specs.Code.{commandRow, maxTokens};
-ghost use Rattle.conversions.specs.Marks.{Fits, Found, Ready, converts, markingIn, narrowStep, settled, stackIn};
+ghost use Rattle.conversions.specs.Marks.{Found, Ready, converts, markingIn, settled, stackIn};
 ghost use Rattle.semantics.specs.Parse.{operandBytes};
+ghost use Rattle.semantics.specs.Token.{narrow};
+ghost use Rattle.token_table.specs.TokenRows.{ownTokens};
+ghost use Rattle.condition.specs.Walk.{Passed};
 
 // A Num holds less: 2^32.
 const NUM_LIMIT: u64 = 4294967296;
 
 // Whether an operation has ScriptNumToLe64 after its left operand.
 fn converts_left(op: IdxOp) -> bool
-    ensures { λ r. ⌜ r ≡ converts op ⌝ }
+    ensures { λ r. ⌜ r ≡ converts (Command.Index op) ⌝ }
 {
     match op {
         IdxOp::Add => false,
@@ -33,7 +34,7 @@ fn converts_left(op: IdxOp) -> bool
 // Refusal 6 does not fall on a command, whose operand bytes stand at `at`.
 fn is_narrow(command: Command, code: &[u8], at: usize) -> bool
     requires { ⌜ at + commandRow command .width ≤ length (now code) ⌝ }
-    ensures { λ r. ⌜ r ≡ narrowStep true command (operandBytes command (now (code .entry)) at) ⌝ }
+    ensures { λ r. ⌜ r ≡ narrow (ownTokens command (operandBytes command (now (code .entry)) at)) ⌝ }
 {
     match command {
         Command::Unknown => true,
@@ -105,21 +106,22 @@ fn step(
 
 // Marks the commands, and says whether refusal 6 lets them pass; `waiting` has room for the index operands that wait.
 pub fn mark(code: &[u8], waiting: &mut [u16], marks: &mut [bool]) -> bool
-    requires { ⌜ Fits (now code) (length (now waiting)) (length (now marks)) ⌝ }
+    requires { ⌜ Passed (now code) (λ s. (s .tokens ≤ length (now waiting)) × (s .tokens ≤ length (now marks))) ⌝ }
     ensures { λ r. ⌜ Found (now (code .entry)) (now (marks .exit)) r ⌝ }
 {
     let mut at = 0;
     let mut count = 0;
     let mut indexes = 0;
     while at < code.len() {
-        let command = command_of(code[at]);
-        if !is_narrow(command, code, at + 1) {
+        let here = commands::next(code, at);
+        let command = here.command;
+        if !is_narrow(command, code, here.operands) {
             return false;
         }
         indexes = step(command, count, indexes, waiting, marks);
         marks[count] = false;
         count += 1;
-        at = at + 1 + width_of(command);
+        at = here.next;
     }
     true
 }

@@ -1,71 +1,79 @@
 -- The invariant: the pass comes to from here what it comes to from the start (`Loop`).
-use borrow.Author.Needs.{needs}
 use Prim.Native.Nat.{ℕ, suc, _+_, _-_, _≤_, _<_}
-use mathlib.Core.Bool.{true}
-use mathlib.Core.Path.{_≡_, refl, sym, _∙_}
+use mathlib.Core.Path.{_≡_, sym, ap, _∙_}
 use mathlib.Core.List.{List}
 use native.Mathlib.Omega.{arith}
 use borrow.Author.Tests.{not-false, not-true}
-use lib.ListN.{length, length-set}
-use Rattle.semantics.specs.Code.{commandRow, maxTokens}
-use Rattle.semantics.specs.Parse.{commandAt, operandsAt}
-use Rattle.conversions.specs.Marks.{Ready, narrowStep}
+use lib.ListN.{length}
+use Rattle.semantics.specs.declared.Command.{Command}
+use Rattle.semantics.specs.Parse.{after, commandAt, operandsAt}
+use Rattle.semantics.specs.Token.{narrow}
+use Rattle.commands.specs.declared.Cursor.{Cursor}
+use Rattle.token_table.specs.TokenRows.{ownTokens}
 use Rattle.conversions.proofs.Pass.{Loop, loop-below, loop-found, loop-next, loop-operands, loop-ready, loop-refused, loop-start}
 use Rattle.conversions.proofs.mark.Statement.{statement}
 use Rattle.conversions.proofs.mark.Tie as tie
 
 abbrev Inv-loop : tie.InvT-loop
-Inv-loop code waiting₀ marks₀ at₀ count₀ indexes₀ waiting marks at count indexes =
-    (length waiting ≡ length waiting₀) × (length marks ≡ length marks₀) × Loop code waiting marks at count indexes
+Inv-loop code waiting₀ marks₀ at₀ count₀ indexes₀ waiting marks at count indexes = Loop code (length waiting₀) (length marks₀) waiting marks at count indexes
 
 abbrev μ-loop : tie.MeasureT-loop
 μ-loop code waiting₀ marks₀ at₀ count₀ indexes₀ waiting marks at count indexes = length code - at
 
--- in a turn whose command is read
-module _ (t : tie.After-command-of Inv-loop μ-loop) where
-  abbrev a : tie.At-loop Inv-loop μ-loop
-  a = t .before .before .before
+abbrev begin : tie.At-loop Inv-loop μ-loop → tie.Start Inv-loop μ-loop
+begin a = a .before .before .before .before
 
-  abbrev begin : tie.Start Inv-loop μ-loop
-  begin = a .before .before .before .before
+-- in a turn
+module _ (t : tie.In-loop Inv-loop μ-loop) where
+  abbrev a : tie.At-loop Inv-loop μ-loop
+  a = t .before
 
   abbrev code : List ℕ
-  code = begin .args .code .now
+  code = begin a .args .code .now
 
-  abbrev inside : a .loop .at < length code
-  inside = t .before .before .loop-test .taken
+  abbrev command : Command
+  command = commandAt code (a .loop .at)
 
-  operands : a .loop .at + 1 + commandRow (commandAt code (a .loop .at)) .width ≤ length code
-  operands = loop-operands code (a .loop .waiting) (a .loop .marks) (a .loop .at) (a .loop .count) (a .loop .indexes) (a .loop .inv .2) inside
+  operands : after code (a .loop .at) ≤ length code
+  operands = loop-operands code _ _ (a .loop .waiting) (a .loop .marks) (a .loop .at) (a .loop .count) (a .loop .indexes) (a .loop .inv) (t .loop-test .taken)
 
-  below : (a .loop .count < length (a .loop .marks)) × (a .loop .count < maxTokens)
-  below = loop-below code (a .loop .waiting) (a .loop .marks) (a .loop .at) (a .loop .count) (a .loop .indexes) (a .loop .inv .2) inside
+-- whose command is read
+module _ (n : tie.After-next Inv-loop μ-loop) where
+  command-is : n .next .result .command ≡ command (n .before)
+  command-is = ap (λ (c : Cursor). c .command) (n .next .ensures)
 
-  ready : Ready (commandAt code (a .loop .at)) (a .loop .count) (a .loop .indexes) (a .loop .waiting) (a .loop .marks)
-  ready = loop-ready code (a .loop .waiting) (a .loop .marks) (a .loop .at) (a .loop .count) (a .loop .indexes) (a .loop .inv .2) inside
+  operands-at : n .next .result .operands ≡ a (n .before) .loop .at + 1
+  operands-at = ap (λ (c : Cursor). c .operands) (n .next .ensures)
+
+  next-at : n .next .result .next ≡ after (code (n .before)) (a (n .before) .loop .at)
+  next-at = ap (λ (c : Cursor). c .next) (n .next .ensures)
 
 -- what `is_narrow` tells of the command
 narrow-told : (c : tie.After-is-narrow Inv-loop μ-loop)
-    → c .is-narrow .result ≡ narrowStep true (commandAt (code (c .before)) (a (c .before) .loop .at)) (operandsAt (code (c .before)) (a (c .before) .loop .at))
+    → let t = c .before .before in
+    c .is-narrow .result ≡ narrow (ownTokens (command t) (operandsAt (code t) (a t .loop .at)))
 narrow-told c =
-    let one : a (c .before) .loop .at + 1 ≡ suc (a (c .before) .loop .at) = omega arith in
-    rw (c .before .command-of .ensures, one) at (c .is-narrow .ensures)
+    let one : c .before .next .result .operands ≡ suc (a (c .before .before) .loop .at) = omega (arith, operands-at (c .before)) in
+    rw (command-is (c .before), one) at (c .is-narrow .ensures)
 
 returns : tie.Need-returns Inv-loop μ-loop
 returns c =
-    let t = c .before .before in
-    loop-refused (code t) (a t .loop .waiting) (a t .loop .marks) (a t .loop .at) (a t .loop .count) (a t .loop .indexes) (a t .loop .inv .2) (inside t) _ (sym (not-true _ (c .if1 .taken)) ∙ narrow-told (c .before))
+    let t = c .before .before .before in
+    loop-refused (code t) _ _ (a t .loop .waiting) (a t .loop .marks) (a t .loop .at) (a t .loop .count) (a t .loop .indexes) (a t .loop .inv) (t .loop-test .taken) _
+    (sym (not-true _ (c .if1 .taken)) ∙ narrow-told (c .before))
+
+below : (t : tie.In-loop Inv-loop μ-loop) → (a t .loop .count < length (a t .loop .marks)) × (a t .loop .count < 1024)
+below t = loop-below (code t) _ _ (a t .loop .waiting) (a t .loop .marks) (a t .loop .at) (a t .loop .count) (a t .loop .indexes) (a t .loop .inv) (t .loop-test .taken)
 
 loop-again : tie.Need-loop-again Inv-loop μ-loop
 loop-again c =
-    let t = c .before .before .before .before .before .before .before .before .before .before in
-    let told = t .command-of .ensures in (
-      omega (arith, a t .loop .inv .0),
-      simp length-set (omega (arith, a t .loop .inv .1)),
-      rw (c .width-of .ensures, told)
-          (loop-next (code t) (a t .loop .waiting) (a t .loop .marks) (a t .loop .at) (a t .loop .count) (a t .loop .indexes) (a t .loop .inv .2) (inside t) (sym (not-false _ (c .before .before .before .before .before .before .before .before .if1 .left)) ∙ narrow-told (c .before .before .before .before .before .before .before .before .before)) _ _ _ (omega arith) (omega arith)
-          (rw told at (c .before .before .before .before .before .step .ensures))),
-    )
+    let s = c .before .before .before .before in
+    let i = s .before .before .before in
+    let n = i .before .before in
+    let t = n .before in
+    rw (next-at n)
+    (loop-next (code t) _ _ (a t .loop .waiting) (a t .loop .marks) (a t .loop .at) (a t .loop .count) (a t .loop .indexes) (a t .loop .inv) (t .loop-test .taken)
+    (sym (not-false _ (i .if1 .left)) ∙ narrow-told (i .before)) _ _ _ (omega arith) (omega arith) (rw (command-is n) at (s .step .ensures)))
 
 pub mark-spec : {M : Type 1} → statement M
 mark-spec =
@@ -73,22 +81,22 @@ mark-spec =
     (tie.spec
     Inv-loop
     μ-loop
-    (λ c. (refl, refl, loop-start (c .before .before .before .args .code .now) (c .before .before .before .args .waiting .now) (c .before .before .before .args .marks .now) (c .before .before .before .pre)))
-    (λ c. search needs)
-    (λ c κs. search needs)
-    (λ c. omega (arith, operands c, begin c .good .0 .0))
-    (λ c κs. rw (c .command-of .ensures) (operands c))
-    (λ c. c .before .before .before .before .before .loop .inv .0)
-    (λ c. c .before .before .before .before .before .loop .inv .1)
+    (λ c. let s = c .before .before .before in loop-start (s .args .code .now) (s .args .waiting .now) (s .args .marks .now) (s .pre))
+    (λ c κs. operands c)
+    (λ c κs. rw (command-is c, operands-at c) (operands (c .before)))
+    (λ c. c .before .before .before .before .loop .inv .waiting-long)
+    (λ c. c .before .before .before .before .loop .inv .marks-long)
     returns
-    (λ c κs. rw (c .before .before .before .before .command-of .ensures) (ready (c .before .before .before .before)))
-    (λ c. omega (arith, below (c .before .before .before .before .before .before .before .before .before)))
-    (λ c. omega (arith, below (c .before .before .before .before .before .before .before .before .before) .1))
-    (λ c. omega (arith, operands (c .before .before .before .before .before .before .before .before .before), begin (c .before .before .before .before .before .before .before .before .before) .good .0 .0))
-    (λ c κs. search needs)
-    (λ c. let t = c .before .before .before .before .before .before .before .before .before .before in omega (arith, operands t, rw (t .command-of .ensures) at (c .width-of .ensures), begin t .good .0 .0))
-    (λ c. omega (arith, operands (c .before .before .before .before .before .before .before .before .before .before)))
+    (λ c κs.
+    let n = c .before .before .before .before in
+    let t = n .before in
+    rw (command-is n) (loop-ready (code t) _ _ (a t .loop .waiting) (a t .loop .marks) (a t .loop .at) (a t .loop .count) (a t .loop .indexes) (a t .loop .inv) (t .loop-test .taken)))
+    (λ c. omega (arith, below (c .before .before .before .before .before .before .before .before .before .before)))
+    (λ c. omega (arith, below (c .before .before .before .before .before .before .before .before .before .before) .1))
+    (λ c. let n = c .before .before .before .before .before .before .before .before .before in omega (arith, next-at n, operands (n .before)))
     loop-again
-    (λ c. c .before .loop .inv .0)
-    (λ c. c .before .loop .inv .1)
-    (λ c. loop-found (c .before .before .before .before .before .args .code .now) (c .before .loop .waiting) (c .before .loop .marks) (c .before .loop .at) (c .before .loop .count) (c .before .loop .indexes) (c .before .loop .inv .2) (c .loop-test .left)))
+    (λ c. c .before .loop .inv .waiting-long)
+    (λ c. c .before .loop .inv .marks-long)
+    (λ c.
+    let a = c .before in
+    loop-found (begin a .args .code .now) _ _ (a .loop .waiting) (a .loop .marks) (a .loop .at) (a .loop .count) (a .loop .indexes) (a .loop .inv) (c .loop-test .left)))
