@@ -1,5 +1,5 @@
 -- Keys noted by their positions: one is found among them, one more is noted, and those of all commands up to a position of the code are.
-use Prim.Native.Nat.{ℕ, zero, suc, _+_, _≤_, _<_}
+use Prim.Native.Nat.{ℕ, zero, suc, _+_, _-_, _≤_, _<_}
 use mathlib.Core.Bool.{Bool, true, false, cond}
 use mathlib.Core.Path.{_≡_, refl, sym, ap, _∙_}
 use mathlib.Core.List.{List, [], _∷_, _++_, map, map-append}
@@ -17,8 +17,10 @@ use Rattle.semantics.specs.Parse.{after, commandAt, fold, instructions, operand
 use Rattle.semantics.specs.Write.{indexOf, withKey}
 use Rattle.semantics.proofs.Machine.{fold-ends, fold-takes, key-at}
 use Rattle.summary.specs.declared.Summary.{Summary}
-use Rattle.condition.specs.Walk.{Coded, next, start}
-use Rattle.condition.proofs.Ahead.{Ahead, ahead-below, ahead-next, ahead-start, passes-on}
+use Rattle.commands.specs.Cursor.{cursorAt}
+use Rattle.commands.specs.declared.Cursor.{Cursor}
+use Rattle.condition.specs.Walk.{Passed, next, start}
+use Rattle.condition.proofs.Position.{Position, passes-on, position-below, position-next, position-start}
 use Rattle.keys.specs.Keys.{KeysFound, Noted, OneMore, codeKeys, keyAt, keyStep, keysAt}
 
 -- the first 32 of 40 operand bytes are the key at their position
@@ -109,25 +111,23 @@ none-found code positions h = record { keys = sym (empty (codeKeys code) h); not
 -- ---- all commands up to a position: n keys are noted
 
 pub record Noting (code : List ℕ) (size : ℕ) (positions : List ℕ) (at n : ℕ) : Type 0 where
-  pub last : Summary
+  pub all : Passed code (λ s. s .tokens ≤ size)
   pub here : Summary
   pub commands : ℕ
-  pub ahead : Ahead code last here at commands
-  pub fits : last .tokens ≤ size
+  pub position : Position code (all .last) here at commands
   pub few : n ≤ commands
   pub long : length positions ≡ size
   pub noted : Noted code positions n
   pub left : fold keyStep (keysAt code positions n) (instructions (drop at code)) ≡ codeKeys code
 
-pub noting-none : (code positions : List ℕ) → Coded code (length positions) → Noting code (length positions) positions 0 0
+pub noting-none : (code positions : List ℕ) → Passed code (λ s. s .tokens ≤ length positions) → Noting code (length positions) positions 0 0
 unfolding codeKeys
-noting-none code positions f =
+noting-none code positions p =
     record {
-      last = f .last;
+      all = p;
       here = start;
       commands = 0;
-      ahead = ahead-start code (f .last) (f .walk);
-      fits = f .fits;
+      position = position-start code (p .last) (p .walk);
       few = omega arith;
       long = refl;
       noted = record { there = omega arith; inside = tt };
@@ -143,24 +143,27 @@ module _ (code : List ℕ) (size : ℕ) (positions : List ℕ) (at n : ℕ) (g :
     width = commandRow (commandAt code at) .width
 
     pub noting-room : n < length positions
-    noting-room = omega (arith, ahead-below code (g .last) (g .here) at (g .commands) (g .ahead) inside, g .fits, g .few, g .long)
+    noting-room = omega (arith, position-below code (g .all .last) (g .here) at (g .commands) (g .position) inside, g .all .known, g .few, g .long)
 
     pub noting-operands : at + 1 + width ≤ length code
-    noting-operands = passes-on code (g .last) (g .here) at (g .commands) (g .ahead) inside .operands
+    noting-operands = passes-on code (g .all .last) (g .here) at (g .commands) (g .position) inside .operands
 
-    pub noting-next : (new : List ℕ) (m : ℕ) → OneMore code width (at + 1) positions n new m → Noting code size new (after code at) m
-    noting-next new m w =
+    -- one turn, by what the cursor told and `note_key` promises
+    pub noting-next : (here : Cursor) → here ≡ cursorAt code at → (new : List ℕ) (m : ℕ)
+        → OneMore code (here .next - here .operands) (here .operands) positions n new m → Noting code size new (here .next) m
+    noting-next here e new m w =
         let ks = keysAt code positions n in
-        let step : keyStep ks (commandAt code at) (operandsAt code at) ≡ cond (eqb width 40) (withKey ks (keyAt code (at + 1))) ks =
-        rw (add-one at) (key-of (withKey ks) ks code (suc at) width) in
+        let bytes : here .next - here .operands ≡ width = rw e (omega arith) in
+        let keys : keysAt code new m ≡ keyStep ks (commandAt code at) (operandsAt code at) =
+        w .keys ∙ rw (bytes, e, add-one at) (sym (key-of (withKey ks) ks code (suc at) width)) in
+        rw e
         record {
-          last = g .last;
+          all = g .all;
           here = next (commandAt code at) (g .here);
           commands = g .commands + 1;
-          ahead = ahead-next code (g .last) (g .here) at (g .commands) (g .ahead) inside;
-          fits = g .fits;
+          position = position-next code (g .all .last) (g .here) at (g .commands) (g .position) inside;
           few = omega (arith, w .few, g .few);
           long = w .long ∙ g .long;
           noted = w .noted;
-          left = rw (w .keys, ← step) (sym (fold-takes keyStep code at inside ks) ∙ g .left);
+          left = rw keys (sym (fold-takes keyStep code at inside ks) ∙ g .left);
         }

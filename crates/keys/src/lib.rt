@@ -1,13 +1,11 @@
 // The keys of a condition: where each stands in its code, equal keys once, in the order of the first command that names them. A key's place in the key buffer
 // follows from its number among them.
-use commands::command_of;
-use commands::width_of;
 ghost use mathlib.Core.Bool.{cond};
 ghost use mathlib.Core.Path.{_≡_};
 ghost use Prim.Native.Nat.{_+_, _*_, _≤_, _<_, _^_};
 ghost use lib.Dec.{eqb};
 ghost use lib.ListN.{length};
-ghost use Rattle.condition.specs.Walk.{Coded};
+ghost use Rattle.condition.specs.Walk.{Passed};
 ghost use Rattle.semantics.specs.Evaluate.{over};
 ghost use Rattle.semantics.specs.FromTokens.{sameBytes};
 ghost use Rattle.semantics.specs.Write.{indexOf, joined};
@@ -65,7 +63,7 @@ fn note_key(width: usize, code: &[u8], at: usize, positions: &mut [u16], count: 
 
 // Notes where the keys of a condition with so many oracle terminals stand in its code; without any there is nothing to look for. The answer is the number of keys.
 pub fn find_keys(code: &[u8], oracles: usize, positions: &mut [u16]) -> usize
-    requires { ⌜ Coded (now code) (length (now positions)) × (length (now code) < 2 ^ 16) × (length (codeKeys (now code)) ≤ oracles) ⌝ }
+    requires { ⌜ Passed (now code) (λ s. s .tokens ≤ length (now positions)) × (length (now code) < 2 ^ 16) × (length (codeKeys (now code)) ≤ oracles) ⌝ }
     ensures { λ r. ⌜ KeysFound (now (code .entry)) (now (positions .exit)) r ⌝ }
 {
     if oracles == 0 {
@@ -74,9 +72,10 @@ pub fn find_keys(code: &[u8], oracles: usize, positions: &mut [u16]) -> usize
     let mut at = 0;
     let mut count = 0;
     while at < code.len() {
-        let width = width_of(command_of(code[at]));
-        count = note_key(width, code, at + 1, positions, count);
-        at = at + 1 + width;
+        let here = commands::next(code, at);
+        let width = here.next - here.operands;
+        count = note_key(width, code, here.operands, positions, count);
+        at = here.next;
     }
     count
 }

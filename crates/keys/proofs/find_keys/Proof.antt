@@ -1,12 +1,10 @@
 -- The invariant: the keys of the commands so far are noted (`Noting`).
-use borrow.Author.Needs.{needs}
 use Prim.Native.Nat.{_+_, _-_, _≤_}
-use mathlib.Core.Path.{_≡_, _∙_, ap}
+use mathlib.Core.Path.{_≡_, ap}
 use native.Mathlib.Omega.{arith}
 use lib.ListN.{length}
-use Rattle.semantics.specs.Code.{commandRow}
-use Rattle.semantics.specs.Parse.{commandAt}
-use Rattle.semantics.specs.declared.Command.{Command}
+use Rattle.semantics.specs.Parse.{after}
+use Rattle.commands.specs.declared.Cursor.{Cursor}
 use Rattle.keys.proofs.Noting.{Noting, none-found, noting-done, noting-next, noting-none, noting-operands, noting-room}
 use Rattle.keys.proofs.find_keys.Statement.{statement}
 use Rattle.keys.proofs.find_keys.Tie as tie
@@ -24,46 +22,45 @@ begin a = a .before .before .before .before
 returns : tie.Need-returns Inv-loop μ-loop
 returns c = let s = c .before .before .before in none-found (s .args .code .now) (s .args .positions .now) (omega (arith, s .pre .2, c .if1 .taken))
 
--- in a turn: the width that was told is the command's, and its operands are there
-module _ (w : tie.After-width-of Inv-loop μ-loop) where
-  abbrev turn : tie.In-loop Inv-loop μ-loop
-  turn = w .before .before .before
+-- in a turn: the operand bytes are there
+operands : (t : tie.In-loop Inv-loop μ-loop) → after (begin (t .before) .args .code .now) (t .before .loop .at) ≤ length (begin (t .before) .args .code .now)
+operands t =
+    let l = t .before .loop in
+    let s = begin (t .before) in
+    noting-operands (s .args .code .now) (length (s .args .positions .now)) (l .positions) (l .at) (l .count) (l .inv) (t .loop-test .taken)
 
+-- and the cursor tells where they stand, and the next command
+module _ (n : tie.After-next Inv-loop μ-loop) where
   abbrev head : tie.At-loop Inv-loop μ-loop
-  head = turn .before
+  head = n .before .before
 
   abbrev start : tie.Start Inv-loop μ-loop
   start = begin head
 
-  width : w .width-of .result ≡ commandRow (commandAt (start .args .code .now) (head .loop .at)) .width
-  width = w .width-of .ensures ∙ ap (λ (c : Command). commandRow c .width) (w .before .command-of .ensures)
+  operands-at : n .next .result .operands ≡ head .loop .at + 1
+  operands-at = ap (λ (c : Cursor). c .operands) (n .next .ensures)
 
-  operands : head .loop .at + 1 + w .width-of .result ≤ length (start .args .code .now)
-  operands =
-      let there =
-      noting-operands (start .args .code .now) (length (start .args .positions .now)) (head .loop .positions) (head .loop .at) (head .loop .count)
-      (head .loop .inv) (turn .loop-test .taken) in
-      omega (arith, width, there)
+  next-at : n .next .result .next ≡ after (start .args .code .now) (head .loop .at)
+  next-at = ap (λ (c : Cursor). c .next) (n .next .ensures)
 
 note-key-requires : tie.Need-note-key-requires Inv-loop μ-loop
 note-key-requires c κs =
-    let w = c .before in
-    let l = head w .loop in
-    let s = start w in (
-      omega (arith, operands w),
+    let n = c .before .before in
+    let l = head n .loop in
+    let s = start n in (
+      omega (arith, operands (n .before), operands-at n, next-at n),
       s .pre .1,
-      noting-room (s .args .code .now) (length (s .args .positions .now)) (l .positions) (l .at) (l .count) (l .inv) (turn w .loop-test .taken),
+      noting-room (s .args .code .now) (length (s .args .positions .now)) (l .positions) (l .at) (l .count) (l .inv) (n .before .loop-test .taken),
       l .inv .noted,
     )
 
 loop-again : tie.Need-loop-again Inv-loop μ-loop
 loop-again c =
-    let w = c .before .before .before .before in
-    let l = head w .loop in
-    let s = start w in
-    rw (width w)
-    (noting-next (s .args .code .now) (length (s .args .positions .now)) (l .positions) (l .at) (l .count) (l .inv) (turn w .loop-test .taken) _ _
-    (rw (width w) at (c .before .before .note-key .ensures)))
+    let n = c .before .before .before .before .before in
+    let l = head n .loop in
+    let s = start n in
+    noting-next (s .args .code .now) (length (s .args .positions .now)) (l .positions) (l .at) (l .count) (l .inv) (n .before .loop-test .taken)
+    (n .next .result) (n .next .ensures) _ _ (c .before .before .note-key .ensures)
 
 pub find-keys-spec : {M : Type 1} → statement M
 find-keys-spec =
@@ -73,14 +70,10 @@ find-keys-spec =
     μ-loop
     returns
     (λ c. let s = c .before .before .before in noting-none (s .args .code .now) (s .args .positions .now) (s .pre .0))
-    (λ c. search needs)
-    (λ c κs. search needs)
-    (λ c κs. search needs)
-    (λ c. omega (arith, operands c, start c .good))
+    (λ c κs. operands c)
+    (λ c. omega (arith, operands-at (c .before), next-at (c .before)))
     note-key-requires
-    (λ c. let w = c .before .before .before .before in omega (arith, operands w, start w .good))
-    (λ c. let w = c .before .before .before .before in omega (arith, operands w, start w .good))
-    (λ c. let w = c .before .before .before .before in omega (arith, operands w))
+    (λ c. let n = c .before .before .before .before .before in omega (arith, operands (n .before), next-at n))
     loop-again
     (λ c. c .before .loop .inv .long)
     (λ c.
