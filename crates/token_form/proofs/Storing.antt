@@ -17,13 +17,13 @@ use Rattle.semantics.proofs.Machine.{fold-ends, fold-takes}
 use Rattle.semantics.specs.Write.{placeIn}
 use Rattle.semantics.proofs.Over.{length-over}
 use Rattle.summary.specs.declared.Summary.{Summary}
-use Rattle.condition.specs.Walk.{Coded, next, start}
+use Rattle.condition.specs.Walk.{Passed, next, start}
+use Rattle.condition.proofs.Position.{Position, passes-on, position-below, position-known, position-next, position-start}
 use Rattle.token_table.specs.declared.TokenRow.{TokenRow}
 use Rattle.token_form.specs.Fields.{bit, numberAt, payload, placeAt}
 use Rattle.semantics.specs.Parse.{operandBytes}
 use Rattle.token_table.specs.TokenRows.{tokensOf, tokenRow}
 use Rattle.token_form.specs.Storing.{Columns, Emission, Room, Stored, columnsOf, emitStep, emitted}
-use Rattle.condition.proofs.Ahead.{Ahead, ahead-below, ahead-known, ahead-next, ahead-start, passes-on}
 use Rattle.token_form.proofs.Over.{over-lent, over-rest}
 use Rattle.token_form.proofs.Keyed.{placeFor, tokens-places}
 use Rattle.token_form.proofs.Rows.{tokens-kinds, tokens-length, tokens-numbers}
@@ -77,23 +77,21 @@ within xs ys more all e = omega (arith, simp length-append at (ap length e))
 
 -- n records are written over `old`, those of the commands before `at`, with keys that stand as in ks
 pub record Progress (code : List ℕ) (marks : List Bool) (ks : List (List ℕ)) (old now : Columns) (at count n : ℕ) : Type 0 where
-  pub last : Summary
-  pub marks-fit : last .tokens ≤ length marks
+  pub whole : Passed code (λ s. s .tokens ≤ length marks)
   pub here : Summary
-  pub ahead : Ahead code last here at count
+  pub position : Position code (whole .last) here at count
   pub done : List Token
   pub left : fold emitStep (record { marks = drop count marks; tokens = done }) (instructions (drop at code)) .tokens ≡ emitted code marks
   pub n-is : length done ≡ n
   pub written : Stored done ks old now
 
-pub none-yet : (code : List ℕ) (marks : List Bool) (ks : List (List ℕ)) (old : Columns) → Coded code (length marks) → Progress code marks ks old old 0 0 0
+pub none-yet : (code : List ℕ) (marks : List Bool) (ks : List (List ℕ)) (old : Columns) → Passed code (λ s. s .tokens ≤ length marks) → Progress code marks ks old old 0 0 0
 unfolding emitted
-none-yet code marks ks old f =
+none-yet code marks ks old p =
     record {
-      last = f .last;
-      marks-fit = f .fits;
+      whole = p;
       here = start;
-      ahead = ahead-start code (f .last) (f .walk);
+      position = position-start code (p .last) (p .walk);
       done = [];
       left = refl;
       n-is = refl;
@@ -143,13 +141,13 @@ module _ (code : List ℕ) (marks : List Bool) (ks : List (List ℕ)) (old now :
     command = commandAt code at
 
     pub command-known : known command ≡ true
-    command-known = ahead-known code (g .last) (g .here) at count (g .ahead) inside
+    command-known = position-known code (g .whole .last) (g .here) at count (g .position) inside
 
     pub command-operands : at + 1 + commandRow command .width ≤ length code
-    command-operands = passes-on code (g .last) (g .here) at count (g .ahead) inside .operands
+    command-operands = passes-on code (g .whole .last) (g .here) at count (g .position) inside .operands
 
     pub mark-inside : count < length marks
-    mark-inside = omega (arith, ahead-below code (g .last) (g .here) at count (g .ahead) inside, g .marks-fit)
+    mark-inside = omega (arith, position-below code (g .whole .last) (g .here) at count (g .position) inside, g .whole .known)
 
     -- the command's tokens
     abbrev pub tokensHere : List Token
@@ -200,10 +198,9 @@ module _ (code : List ℕ) (marks : List Bool) (ks : List (List ℕ)) (old now :
         let w = g .written in
         let ts = tokensHere in
         record {
-          last = g .last;
-          marks-fit = g .marks-fit;
+          whole = g .whole;
           here = next command (g .here);
-          ahead = ahead-next code (g .last) (g .here) at count (g .ahead) inside;
+          position = position-next code (g .whole .last) (g .here) at count (g .position) inside;
           done = g .done ++ ts;
           left = left-now;
           n-is = length-append (g .done) ts ∙ omega (arith, g .n-is, e);

@@ -11,7 +11,7 @@ ghost use Prim.Native.Nat.{_+_, _≤_, _<_, _^_};
 ghost use lib.ListN.{length, take};
 ghost use Rattle.semantics.specs.Code.{commandOf, commandRow, known};
 ghost use Rattle.semantics.specs.Evaluate.{over};
-ghost use Rattle.condition.specs.Walk.{Coded};
+ghost use Rattle.condition.specs.Walk.{Passed};
 ghost use Rattle.keys.specs.Keys.{Noted, keysAt};
 ghost use Rattle.token_form.specs.Fields.{Single, bit, numberAt, payload, placeAt};
 ghost use Rattle.semantics.specs.Parse.{operandBytes};
@@ -260,7 +260,7 @@ pub fn write_records(
     numbers: &mut [u64],
     places: &mut [u32],
 )
-    requires { ⌜ Coded (now code) (length (now marks)) × («key_count» < 2 ^ 16) × Noted (now code) (now positions) «key_count» ⌝ }
+    requires { ⌜ Passed (now code) (λ s. s .tokens ≤ length (now marks)) × («key_count» < 2 ^ 16) × Noted (now code) (now positions) «key_count» ⌝ }
     requires { ⌜ Room (emitted (now code) (now marks)) (columnsOf (now kinds) (now numbers) (now places)) ⌝ }
     ensures { λ _. ⌜ Stored (emitted (now (code .entry)) (now (marks .entry))) (keysAt (now (code .entry)) (now (positions .entry)) «key_count») (columnsOf (now (kinds .entry)) (now (numbers .entry)) (now (places .entry))) (columnsOf (now (kinds .exit)) (now (numbers .exit)) (now (places .exit))) ⌝ }
 {
