@@ -4,3 +4,4 @@ pub mod Trees
 pub mod Checks
 pub mod Onward
 pub mod Position
+pub mod Lookups
