@@ -2,3 +2,4 @@
 pub mod Narrow
 pub mod Waiting
 pub mod Pass
+pub mod Unmarked

@@ -20,7 +20,7 @@ use Rattle.summary.specs.declared.Summary.{Summary}
 use Rattle.condition.specs.Walk.{Passed, next, start}
 use Rattle.condition.proofs.Position.{Position, passes-on, position-below, position-next, position-start}
 use Rattle.token_table.specs.TokenRows.{ownTokens}
-use Rattle.conversions.specs.Marks.{Found, Marking, Ready, ending, markStep, markingIn, marksOf, narrowCode, narrowStep, settled, stackIn}
+use Rattle.conversions.specs.Marks.{Fits, Found, Marking, Ready, ending, markStep, markingIn, marksOf, narrowCode, narrowStep, settled, stackIn}
 use Rattle.conversions.proofs.Narrow.{narrow-stays}
 
 -- ---- one command
@@ -57,13 +57,9 @@ settled-earlier c s h =
 
 -- ---- the loop
 
--- room for as many operands and marks as there are tokens
-abbrev pub Fits : ℕ → ℕ → Summary → Type 0
-Fits waiting marks s = (s .tokens ≤ waiting) × (s .tokens ≤ marks)
-
 -- `room` and `size` are the lengths of the two arrays
-pub record Loop (code : List ℕ) (room size : ℕ) (waiting : List ℕ) (marks : List Bool) (at count indexes : ℕ) : Type 0 where
-  pub all : Passed code (Fits room size)
+pub record Loop (code : List ℕ) (lookups room size : ℕ) (waiting : List ℕ) (marks : List Bool) (at count indexes : ℕ) : Type 0 where
+  pub all : Passed code (Fits lookups room size)
   pub here : Summary
   pub position : Position code (all .last) here at count
   pub waiting-long : length waiting ≡ room
@@ -75,10 +71,10 @@ pub record Loop (code : List ℕ) (room size : ℕ) (waiting : List ℕ) (marks 
   pub runs : fold markStep (markingIn waiting indexes marks count) (instructions (drop at code)) .marks ≡ marksOf code
   pub passed : count ≤ length marks
 
-pub loop-start : (code waiting : List ℕ) (marks : List Bool) → Passed code (Fits (length waiting) (length marks))
-    → Loop code (length waiting) (length marks) waiting marks 0 0 0
+pub loop-start : (code : List ℕ) (lookups : ℕ) (waiting : List ℕ) (marks : List Bool) → Passed code (Fits lookups (length waiting) (length marks))
+    → Loop code lookups (length waiting) (length marks) waiting marks 0 0 0
 unfolding narrowCode marksOf
-loop-start code waiting marks p =
+loop-start code lookups waiting marks p =
     record {
       all = p;
       here = start;
@@ -93,7 +89,7 @@ loop-start code waiting marks p =
       passed = omega arith;
     }
 
-module _ (code : List ℕ) (room size : ℕ) (waiting : List ℕ) (marks : List Bool) (at count indexes : ℕ) (l : Loop code room size waiting marks at count indexes) where
+module _ (code : List ℕ) (lookups room size : ℕ) (waiting : List ℕ) (marks : List Bool) (at count indexes : ℕ) (l : Loop code lookups room size waiting marks at count indexes) where
   pub loop-found : length code ≤ at → Found code marks true
   loop-found h =
       let t : take count marks ≡ marksOf code = sym (ap (λ (s : Marking). s .marks) (fold-ends markStep code at h (markingIn waiting indexes marks count))) ∙ l .runs in
@@ -111,7 +107,7 @@ module _ (code : List ℕ) (room size : ℕ) (waiting : List ℕ) (marks : List 
 
     pub loop-below : (count < length marks) × (count < maxTokens)
     loop-below =
-        let b = position-below code (l .all .last) (l .here) at count (l .position) inside in (omega (arith, b, l .all .known .1, l .marks-long), omega (arith, b, l .all .few))
+        let b = position-below code (l .all .last) (l .here) at count (l .position) inside in (omega (arith, b, l .all .known .2, l .marks-long), omega (arith, b, l .all .few))
 
     need : needMet (commandRow command) (l .here .values) indexes ≡ true
     need = rw (l .indexes-are) at (passes-on code (l .all .last) (l .here) at count (l .position) inside .met)
@@ -123,7 +119,7 @@ module _ (code : List ℕ) (room size : ℕ) (waiting : List ℕ) (marks : List 
           met = need;
           count-fits = loop-below .0;
           few = loop-below .1;
-          indexes-fit = omega (arith, position-below code (l .all .last) (l .here) at count (l .position) inside, l .height, l .all .known .0, l .waiting-long);
+          indexes-fit = omega (arith, position-below code (l .all .last) (l .here) at count (l .position) inside, l .height, l .all .known .1, l .waiting-long);
           earlier = l .earlier;
         }
 
@@ -140,7 +136,7 @@ module _ (code : List ℕ) (room size : ℕ) (waiting : List ℕ) (marks : List 
     pub loop-next : true ≡ narrow (ownTokens command (operandsAt code at)) → (waiting′ : List ℕ) (marks′ : List Bool) (indexes′ : ℕ)
         → length waiting′ ≡ length waiting → length marks′ ≡ length marks
         → markingIn waiting′ indexes′ marks′ count ≡ settled (markingIn waiting indexes marks count) command
-        → Loop code room size waiting′ (set marks′ count false) (after code at) (count + 1) indexes′
+        → Loop code lookups room size waiting′ (set marks′ count false) (after code at) (count + 1) indexes′
     loop-next e waiting′ marks′ indexes′ p q s =
         let old = markingIn waiting indexes marks count in
         let n : length (take count marks) ≡ count = length-take-le count marks (l .passed) in

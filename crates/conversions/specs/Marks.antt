@@ -1,16 +1,17 @@
 -- Which commands are marked, by one pass over the commands with the index operands that wait; and refusal 6 by the same pass.
-use Prim.Native.Nat.{ℕ, _<_}
+use Prim.Native.Nat.{ℕ, _<_, _≤_}
 use mathlib.Core.Bool.{Bool, true, false, _&&_, cond}
 use mathlib.Core.Path.{_≡_}
 use mathlib.Core.List.{List, [], _∷_, _++_}
 use lib.Dec.{eqb, ltb}
-use lib.ListN.{length, getD, take, drop, set}
+use lib.ListN.{length, getD, take, drop, set, replicate}
 use Rattle.slices.specs.Stack.{stackOf}
 use Rattle.slices.specs.Bytes.{All}
 use Rattle.semantics.specs.declared.Command.{Command}
 use Rattle.semantics.specs.Code.{Made, commandRow, needMet, maxTokens}
 use Rattle.semantics.specs.Parse.{fold, instructions}
 use Rattle.semantics.specs.Token.{narrow}
+use Rattle.summary.specs.declared.Summary.{Summary}
 use Rattle.token_table.specs.TokenRows.{ownTokens}
 
 -- whether a command has a token more than those that it writes itself: SCRIPTNUMTOLE64, between its operands' tokens
@@ -72,6 +73,14 @@ pub record Ready (c : Command) (count indexes : ℕ) (waiting : List ℕ) (marks
   pub few : count < maxTokens
   pub indexes-fit : indexes < length waiting
   pub earlier : All (λ k. k < count) (stackIn waiting indexes)
+
+-- of code with so many lookups, for whose tokens there is room
+abbrev pub Fits : ℕ → ℕ → ℕ → Summary → Type 0
+Fits lookups waiting marks s = (s .lookups ≡ lookups) × (s .tokens ≤ waiting) × (s .tokens ≤ marks)
+
+-- no mark is set
+abbrev pub Unmarked : List Bool → Type 0
+Unmarked marks = marks ≡ replicate (length marks) false
 
 -- what the pass finds: whether 6 lets the code pass, and then the marks of its commands at the front of the array
 pub record Found (code : List ℕ) (marks : List Bool) (narrow : Bool) : Type 0 where

@@ -10,7 +10,7 @@ ghost use Prim.Native.Nat.{_+_, _≤_, _<_};
 ghost use lib.ListN.{length};
 ghost use Rattle.semantics.specs.declared.Command.{Command};
 ghost use Rattle.semantics.specs.Code.{commandRow, maxTokens};
-ghost use Rattle.conversions.specs.Marks.{Found, Ready, converts, markingIn, settled, stackIn};
+ghost use Rattle.conversions.specs.Marks.{Fits, Found, Ready, Unmarked, converts, markingIn, settled, stackIn};
 ghost use Rattle.semantics.specs.Parse.{operandBytes};
 ghost use Rattle.semantics.specs.Token.{narrow};
 ghost use Rattle.token_table.specs.TokenRows.{ownTokens};
@@ -104,11 +104,15 @@ fn step(
     }
 }
 
-// Marks the commands, and says whether refusal 6 lets them pass; `waiting` has room for the index operands that wait.
-pub fn mark(code: &[u8], waiting: &mut [u16], marks: &mut [bool]) -> bool
-    requires { ⌜ Passed (now code) (λ s. (s .tokens ≤ length (now waiting)) × (s .tokens ≤ length (now marks))) ⌝ }
+// Marks the commands of a condition with so many lookups, and says whether refusal 6 lets them pass; without any there is no index command, and none to mark.
+// `waiting` has room for the index operands that wait.
+pub fn mark(code: &[u8], lookups: usize, waiting: &mut [u16], marks: &mut [bool]) -> bool
+    requires { ⌜ Passed (now code) (Fits lookups (length (now waiting)) (length (now marks))) × Unmarked (now marks) ⌝ }
     ensures { λ r. ⌜ Found (now (code .entry)) (now (marks .exit)) r ⌝ }
 {
+    if lookups == 0 {
+        return true;
+    }
     let mut at = 0;
     let mut count = 0;
     let mut indexes = 0;

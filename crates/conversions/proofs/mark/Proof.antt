@@ -11,17 +11,19 @@ use Rattle.semantics.specs.Token.{narrow}
 use Rattle.commands.specs.declared.Cursor.{Cursor}
 use Rattle.token_table.specs.TokenRows.{ownTokens}
 use Rattle.conversions.proofs.Pass.{Loop, loop-below, loop-found, loop-next, loop-operands, loop-ready, loop-refused, loop-start}
+use Rattle.conversions.proofs.Unmarked.{found-unmarked}
 use Rattle.conversions.proofs.mark.Statement.{statement}
 use Rattle.conversions.proofs.mark.Tie as tie
 
 abbrev Inv-loop : tie.InvT-loop
-Inv-loop code waiting₀ marks₀ at₀ count₀ indexes₀ waiting marks at count indexes = Loop code (length waiting₀) (length marks₀) waiting marks at count indexes
+Inv-loop code lookups waiting₀ marks₀ at₀ count₀ indexes₀ waiting marks at count indexes =
+    Loop code lookups (length waiting₀) (length marks₀) waiting marks at count indexes
 
 abbrev μ-loop : tie.MeasureT-loop
-μ-loop code waiting₀ marks₀ at₀ count₀ indexes₀ waiting marks at count indexes = length code - at
+μ-loop code lookups waiting₀ marks₀ at₀ count₀ indexes₀ waiting marks at count indexes = length code - at
 
 abbrev begin : tie.At-loop Inv-loop μ-loop → tie.Start Inv-loop μ-loop
-begin a = a .before .before .before .before
+begin a = a .before .before .before .before .before
 
 -- in a turn
 module _ (t : tie.In-loop Inv-loop μ-loop) where
@@ -35,7 +37,7 @@ module _ (t : tie.In-loop Inv-loop μ-loop) where
   command = commandAt code (a .loop .at)
 
   operands : after code (a .loop .at) ≤ length code
-  operands = loop-operands code _ _ (a .loop .waiting) (a .loop .marks) (a .loop .at) (a .loop .count) (a .loop .indexes) (a .loop .inv) (t .loop-test .taken)
+  operands = loop-operands code _ _ _ (a .loop .waiting) (a .loop .marks) (a .loop .at) (a .loop .count) (a .loop .indexes) (a .loop .inv) (t .loop-test .taken)
 
 -- whose command is read
 module _ (n : tie.After-next Inv-loop μ-loop) where
@@ -56,14 +58,14 @@ narrow-told c =
     let one : c .before .next .result .operands ≡ suc (a (c .before .before) .loop .at) = omega (arith, operands-at (c .before)) in
     rw (command-is (c .before), one) at (c .is-narrow .ensures)
 
-returns : tie.Need-returns Inv-loop μ-loop
-returns c =
+returns-2 : tie.Need-returns-2 Inv-loop μ-loop
+returns-2 c =
     let t = c .before .before .before in
-    loop-refused (code t) _ _ (a t .loop .waiting) (a t .loop .marks) (a t .loop .at) (a t .loop .count) (a t .loop .indexes) (a t .loop .inv) (t .loop-test .taken) _
-    (sym (not-true _ (c .if1 .taken)) ∙ narrow-told (c .before))
+    loop-refused (code t) _ _ _ (a t .loop .waiting) (a t .loop .marks) (a t .loop .at) (a t .loop .count) (a t .loop .indexes) (a t .loop .inv) (t .loop-test .taken) _
+    (sym (not-true _ (c .if2 .taken)) ∙ narrow-told (c .before))
 
 below : (t : tie.In-loop Inv-loop μ-loop) → (a t .loop .count < length (a t .loop .marks)) × (a t .loop .count < 1024)
-below t = loop-below (code t) _ _ (a t .loop .waiting) (a t .loop .marks) (a t .loop .at) (a t .loop .count) (a t .loop .indexes) (a t .loop .inv) (t .loop-test .taken)
+below t = loop-below (code t) _ _ _ (a t .loop .waiting) (a t .loop .marks) (a t .loop .at) (a t .loop .count) (a t .loop .indexes) (a t .loop .inv) (t .loop-test .taken)
 
 loop-again : tie.Need-loop-again Inv-loop μ-loop
 loop-again c =
@@ -72,8 +74,8 @@ loop-again c =
     let n = i .before .before in
     let t = n .before in
     rw (next-at n)
-    (loop-next (code t) _ _ (a t .loop .waiting) (a t .loop .marks) (a t .loop .at) (a t .loop .count) (a t .loop .indexes) (a t .loop .inv) (t .loop-test .taken)
-    (sym (not-false _ (i .if1 .left)) ∙ narrow-told (i .before)) _ _ _ (omega arith) (omega arith) (rw (command-is n) at (s .step .ensures)))
+    (loop-next (code t) _ _ _ (a t .loop .waiting) (a t .loop .marks) (a t .loop .at) (a t .loop .count) (a t .loop .indexes) (a t .loop .inv) (t .loop-test .taken)
+    (sym (not-false _ (i .if2 .left)) ∙ narrow-told (i .before)) _ _ _ (omega arith) (omega arith) (rw (command-is n) at (s .step .ensures)))
 
 pub mark-spec : {M : Type 1} → statement M
 mark-spec =
@@ -81,16 +83,21 @@ mark-spec =
     (tie.spec
     Inv-loop
     μ-loop
-    (λ c. let s = c .before .before .before in loop-start (s .args .code .now) (s .args .waiting .now) (s .args .marks .now) (s .pre))
+    (λ c.
+    let s = c .before .before .before .before in
+    found-unmarked (s .args .code .now) (s .args .marks .now) _ _ (s .pre .0) (c .if1 .taken) (s .pre .1))
+    (λ c.
+    let s = c .before .before .before .before in
+    loop-start (s .args .code .now) (s .args .lookups) (s .args .waiting .now) (s .args .marks .now) (s .pre .0))
     (λ c κs. operands c)
     (λ c κs. rw (command-is c, operands-at c) (operands (c .before)))
     (λ c. c .before .before .before .before .loop .inv .waiting-long)
     (λ c. c .before .before .before .before .loop .inv .marks-long)
-    returns
+    returns-2
     (λ c κs.
     let n = c .before .before .before .before in
     let t = n .before in
-    rw (command-is n) (loop-ready (code t) _ _ (a t .loop .waiting) (a t .loop .marks) (a t .loop .at) (a t .loop .count) (a t .loop .indexes) (a t .loop .inv) (t .loop-test .taken)))
+    rw (command-is n) (loop-ready (code t) _ _ _ (a t .loop .waiting) (a t .loop .marks) (a t .loop .at) (a t .loop .count) (a t .loop .indexes) (a t .loop .inv) (t .loop-test .taken)))
     (λ c. omega (arith, below (c .before .before .before .before .before .before .before .before .before .before)))
     (λ c. omega (arith, below (c .before .before .before .before .before .before .before .before .before .before) .1))
     (λ c. let n = c .before .before .before .before .before .before .before .before .before in omega (arith, next-at n, operands (n .before)))
@@ -99,4 +106,4 @@ mark-spec =
     (λ c. c .before .loop .inv .marks-long)
     (λ c.
     let a = c .before in
-    loop-found (begin a .args .code .now) _ _ (a .loop .waiting) (a .loop .marks) (a .loop .at) (a .loop .count) (a .loop .indexes) (a .loop .inv) (c .loop-test .left)))
+    loop-found (begin a .args .code .now) _ _ _ (a .loop .waiting) (a .loop .marks) (a .loop .at) (a .loop .count) (a .loop .indexes) (a .loop .inv) (c .loop-test .left)))
