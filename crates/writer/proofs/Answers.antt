@@ -23,9 +23,7 @@ use Rattle.semantics.proofs.Passing.{Passed, answered-refused, passed, too-long
 use Rattle.semantics.proofs.Forms.{form-keys}
 use Rattle.semantics.proofs.Placing.{keys-few}
 use Rattle.semantics.proofs.Room.{has-room}
-use Rattle.condition.specs.Walk.{Coded}
-use Rattle.condition.proofs.Onward.{accepted}
-use Rattle.conversions.specs.Marks.{Fits, marksOf, narrowCode}
+use Rattle.conversions.specs.Marks.{marksOf, narrowCode}
 use Rattle.keys.specs.Keys.{KeysFound, codeKeys, keysAt}
 use Rattle.keys.proofs.Noting.{keys-count}
 use Rattle.token_form.specs.Storing.{Room, Stored, columnsOf, emitted}
@@ -40,21 +38,6 @@ Outcome b old r new = _≡_ {A = Wrote} (record { answer = r; records = new }) (
 pub refused-first : (b : List ℕ) (old : Records) (r : Refusal) → checked b ≡ Checked.Refused r → Outcome b old (Written.Refused r) old
 unfolding checked writing wrote
 refused-first b old r e = rw (answered-refused (condition b) r e)
-
--- the arrays have room
-pub fits : (b : List ℕ) (t m waiting marks : ℕ) → checked b ≡ Checked.Passed t m → t ≤ waiting → t ≤ marks → Fits b waiting marks
-fits b t m waiting marks e h k =
-    let a = accepted b t m e in
-    record {
-      last = a .last;
-      walk = a .walk;
-      few = omega (arith, a .tokens-are, a .few);
-      waiting-fits = omega (arith, a .tokens-are, h);
-      marks-fit = omega (arith, a .tokens-are, k);
-    }
-
-pub coded : (b : List ℕ) (t m room : ℕ) → checked b ≡ Checked.Passed t m → t ≤ room → Coded b room
-coded b t m room e h = let a = accepted b t m e in record { last = a .last; walk = a .walk; fits = omega (arith, a .tokens-are, h) }
 
 -- positions in it are 16 bits wide
 pub short : (b : List ℕ) (t m : ℕ) → checked b ≡ Checked.Passed t m → length b < 2 ^ 16

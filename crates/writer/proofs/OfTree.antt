@@ -1,22 +1,17 @@
 -- The marks of a tree's commands, and that the tokens of these commands with these marks are the tree's form: `emitted-form`.
--- Refusal 6 by the commands is that by the form: `narrow-form`.
-use Prim.Native.Nat.{ℕ, _^_}
+-- Refusal 6 by the commands is that by the form: `narrow-emitted`.
+use Prim.Native.Nat.{ℕ}
 use mathlib.Core.Bool.{Bool, true, false}
 use mathlib.Core.Path.{_≡_, refl, ap, _∙_}
 use mathlib.Core.List.{List, [], _∷_, _++_, append-assoc, append-nil}
 use native.Mathlib.Omega.{arith}
-use lib.Dec.{ltb}
 use lib.ListN.{length, getD, length-append}
 use lib.Seq.{drop-at, set-at, take-at}
-use Rattle.slices.specs.Bytes.{bytesValue, littleEndian}
+use Rattle.slices.specs.Bytes.{littleEndian}
 use Rattle.slices.proofs.Bytes.{value-of-bytes}
 use Rattle.semantics.proofs.Forms.{narrow-append}
-use Rattle.semantics.specs.declared.AmountList.{AmountList}
-use Rattle.semantics.specs.declared.BinOp.{BinOp}
-use Rattle.semantics.specs.declared.CmpOp.{CmpOp}
 use Rattle.semantics.specs.declared.Command.{Command}
 use Rattle.semantics.specs.declared.IdxOp.{IdxOp}
-use Rattle.semantics.specs.declared.UnOp.{UnOp}
 use Rattle.semantics.specs.Code.{code}
 use Rattle.semantics.specs.Operations.{Token, idxRow}
 use Rattle.semantics.specs.Parse.{instructions}
@@ -26,14 +21,14 @@ use Rattle.semantics.proofs.Encodable.{Encodable, ExprEncodable, IdxEncodable}
 use Rattle.semantics.proofs.Machine.{fold-code, fold-map, onExpr, onIdx}
 use Rattle.conversions.specs.Marks.{Marking, converts, markStep, marksOf, narrowCode, narrowStep, unmarked}
 use Rattle.token_table.specs.TokenRows.{converted, ownTokens, tokensOf}
-use Rattle.conversions.proofs.Narrow.{and-end, narrow-from}
+use Rattle.conversions.proofs.Narrow.{and-end}
 use Rattle.token_form.specs.Storing.{Emission, emitStep, emitted}
 
 -- of an index: the marks of its commands but the last
 inner : IdxExpr → List Bool
 inner (IdxExpr.Const n) = []
 inner IdxExpr.CurrIdx = []
-inner (IdxExpr.Op o x y) = inner x ++ converts o ∷ inner y ++ false ∷ []
+inner (IdxExpr.Op o x y) = inner x ++ converts (Command.Index o) ∷ inner y ++ false ∷ []
 
 exprMarks : Expr → List Bool
 exprMarks (Expr.Const bits) = false ∷ []
@@ -61,7 +56,7 @@ mark-idx (IdxExpr.Op o x y) w m =
     let front = m ++ inner x in
     let behind = inner y ++ false ∷ [] in
     let all : front ++ false ∷ [] ++ inner y ++ false ∷ [] ≡ front ++ false ∷ behind = simp append-assoc in
-    rw (mark-idx x w m, mark-idx y (length front ∷ w) (front ++ false ∷ []), all, set-at front false behind (converts o) (length front) refl)
+    rw (mark-idx x w m, mark-idx y (length front ∷ w) (front ++ false ∷ []), all, set-at front false behind (converts (Command.Index o)) (length front) refl)
     (marking (ap (λ (k : ℕ). k ∷ w) (simp length-append (omega arith))) (simp append-assoc))
 
 mark-expr : (x : Expr) (w : List ℕ) (m : List Bool)
@@ -86,7 +81,7 @@ marks-code (Arith.Compare o x y) k =
 emission : {m m′ : List Bool} {t t′ : List Token} → m ≡ m′ → t ≡ t′ → _≡_ {A = Emission} (record { marks = m; tokens = t }) (record { marks = m′; tokens = t′ })
 emission p q = λ k. record { marks = p k; tokens = q k }
 
-between : (o : IdxOp) → converted (converts o) ≡ idxRow o .between
+between : (o : IdxOp) → converted (converts (Command.Index o)) ≡ idxRow o .between
 between o = elim o [ IdxOp.Add ↦ refl | IdxOp.Sub ↦ refl | IdxOp.Mul ↦ refl | IdxOp.Div ↦ refl ]
 
 emit-idx : (x : IdxExpr) → IdxEncodable x → (b : Bool) (m : List Bool) (t : List Token)
@@ -96,8 +91,9 @@ emit-idx (IdxExpr.Const n) k b m t = rw (value-of-bytes 8 n k) (emission refl (s
 emit-idx IdxExpr.CurrIdx k b m t = emission refl (simp append-assoc)
 emit-idx (IdxExpr.Op o x y) k b m t =
     let later = inner y ++ false ∷ b ∷ m in
-    let all : inner x ++ converts o ∷ inner y ++ false ∷ [] ++ b ∷ m ≡ inner x ++ converts o ∷ later = simp append-assoc in
-    rw (all, emit-idx x (k .0) (converts o) later t, emit-idx y (k .1) false (b ∷ m) (t ++ idxForm x ++ converted (converts o)), between o)
+    let after = converts (Command.Index o) in
+    let all : inner x ++ after ∷ inner y ++ false ∷ [] ++ b ∷ m ≡ inner x ++ after ∷ later = simp append-assoc in
+    rw (all, emit-idx x (k .0) after later t, emit-idx y (k .1) false (b ∷ m) (t ++ idxForm x ++ converted after), between o)
     (emission refl (simp append-assoc))
 
 emit-expr : (x : Expr) → ExprEncodable x → (m : List Bool) (t : List Token)
@@ -132,38 +128,13 @@ emitted-form (Arith.Compare o x y) k rest =
 -- ---- 6
 
 -- whether the tokens are narrow is what the pass over the commands tells
-own-narrow : (c : Command) (n : List ℕ) → narrow (ownTokens c n) ≡ narrowStep true c n
-own-narrow Command.Unknown n = refl
-own-narrow Command.IdxConst n = and-end (ltb (bytesValue n) (2 ^ 32))
-own-narrow Command.CurrIdx n = refl
-own-narrow (Command.Index o) n = elim o [ IdxOp.Add ↦ refl | IdxOp.Sub ↦ refl | IdxOp.Mul ↦ refl | IdxOp.Div ↦ refl ]
-own-narrow Command.Const n = refl
-own-narrow Command.CurrInputIdx n = refl
-own-narrow (Command.Lookup l) n =
-    elim l [ AmountList.Input ↦ refl | AmountList.Output ↦ refl | AmountList.InputIssue ↦ refl | AmountList.InputReIssue ↦ refl ]
-own-narrow (Command.Binary o) n =
-    elim o [
-      | BinOp.Add ↦ refl
-      | BinOp.Sub ↦ refl
-      | BinOp.Mul ↦ refl
-      | BinOp.Div ↦ refl
-      | BinOp.Mod ↦ refl
-      | BinOp.BitAnd ↦ refl
-      | BinOp.BitOr ↦ refl
-      | BinOp.Xor ↦ refl
-    ]
-own-narrow (Command.Unary o) n = elim o [ UnOp.Invert ↦ refl | UnOp.Negate ↦ refl ]
-own-narrow Command.PriceOracle1 n = refl
-own-narrow Command.PriceOracle1W n = refl
-own-narrow (Command.Compare o) n = elim o [ CmpOp.Eq ↦ refl | CmpOp.Lt ↦ refl | CmpOp.Leq ↦ refl | CmpOp.Gt ↦ refl | CmpOp.Geq ↦ refl ]
-
-narrow-tokens : (c : Command) (n : List ℕ) (marked : Bool) → narrow (tokensOf c n marked) ≡ narrowStep true c n
-narrow-tokens c n true = narrow-append (ownTokens c n) (converted true) ∙ and-end (narrow (ownTokens c n)) ∙ own-narrow c n
-narrow-tokens c n false = rw (append-nil (ownTokens c n)) (own-narrow c n)
+narrow-tokens : (c : Command) (n : List ℕ) (marked : Bool) → narrow (tokensOf c n marked) ≡ narrow (ownTokens c n)
+narrow-tokens c n true = narrow-append (ownTokens c n) (converted true) ∙ and-end (narrow (ownTokens c n))
+narrow-tokens c n false = rw (append-nil (ownTokens c n))
 
 pub narrow-emitted : (c : List ℕ) (marks : List Bool) → narrow (emitted c marks) ≡ narrowCode c
 unfolding emitted narrowCode
 narrow-emitted c marks =
     fold-map emitStep narrowStep (λ s. narrow (s .tokens))
-    (λ s d n. narrow-append (s .tokens) (tokensOf d n (getD (s .marks) 0 false)) ∙ rw (narrow-tokens d n (getD (s .marks) 0 false)) (narrow-from (narrow (s .tokens)) d n))
+    (λ s d n. narrow-append (s .tokens) (tokensOf d n (getD (s .marks) 0 false)) ∙ rw (narrow-tokens d n (getD (s .marks) 0 false)))
     (instructions c) (record { marks = marks; tokens = [] })

@@ -1,18 +1,19 @@
-// Write: condition code to token records. One pass over the commands marks those after which a ScriptNumToLe64 stands, a second one finds the keys, where there
-// are oracle terminals, and a third one writes the records.
-use semantics::Checked;
+// Write: condition code to token records. One pass over the commands marks those after which a ScriptNumToLe64 stands, where there are lookups, a second one finds
+// the keys, where there are oracle terminals, and a third one writes the records.
+use condition::Examined;
 use semantics::MAX_TOKENS;
 use semantics::Refusal;
 use semantics::Written;
 ghost use mathlib.Core.Bool.{_&&_};
 ghost use mathlib.Core.Path.{_≡_};
-ghost use Prim.Native.Nat.{_≤_};
 ghost use lib.Dec.{leb};
 ghost use lib.ListN.{length};
 ghost use Rattle.semantics.specs.declared.Checked.{Checked};
 ghost use Rattle.semantics.specs.Check.{checked};
 ghost use Rattle.semantics.specs.Records.{recordsOf};
 ghost use Rattle.semantics.specs.Write.{wrote};
+ghost use Rattle.condition.specs.Walk.{Passed};
+ghost use Rattle.conversions.specs.Marks.{Fits, Unmarked};
 
 // Conditions of so few tokens are written with smaller arrays, which take less time to make.
 const FEW_TOKENS: usize = 32;
@@ -42,12 +43,13 @@ fn has_room(
     key_bytes <= keys
 }
 
-// Refusals 6 and 7, then the records and keys, of a condition that Check let pass; the arrays have room for as many as it has tokens. `noted` has the index operands
+// Refusals 6 and 7, then the records and keys, of a condition that Check let pass; the arrays have room for as many as it has tokens, and no mark is set. `noted` has the index operands
 // that wait, and then, when they are done with, where the keys stand in the code.
 fn write_with(
     code: &[u8],
     tokens: usize,
     oracles: usize,
+    lookups: usize,
     kinds: &mut [u8],
     numbers: &mut [u64],
     places: &mut [u32],
@@ -55,10 +57,10 @@ fn write_with(
     noted: &mut [u16],
     marks: &mut [bool],
 ) -> Written
-    requires { ⌜ (checked (now code) ≡ Checked.Passed tokens oracles) × (tokens ≤ length (now noted)) × (tokens ≤ length (now marks)) ⌝ }
+    requires { ⌜ (checked (now code) ≡ Checked.Passed tokens oracles) × Passed (now code) (Fits lookups (length (now noted)) (length (now marks))) × Unmarked (now marks) ⌝ }
     ensures { λ r. ⌜ record { answer = r; records = recordsOf (now (kinds .exit)) (now (numbers .exit)) (now (places .exit)) (now (keys .exit)) } ≡ wrote (now (code .entry)) (recordsOf (now (kinds .entry)) (now (numbers .entry)) (now (places .entry)) (now (keys .entry))) ⌝ }
 {
-    if !conversions::mark(code, noted, marks) {
+    if !conversions::mark(code, lookups, noted, marks) {
         return Written::Refused(Refusal::IndexConstTooLarge);
     }
     let count = keys::find_keys(code, oracles, noted);
@@ -86,12 +88,13 @@ fn write_passed(
     code: &[u8],
     tokens: usize,
     oracles: usize,
+    lookups: usize,
     kinds: &mut [u8],
     numbers: &mut [u64],
     places: &mut [u32],
     keys: &mut [u8],
 ) -> Written
-    requires { ⌜ checked (now code) ≡ Checked.Passed tokens oracles ⌝ }
+    requires { ⌜ (checked (now code) ≡ Checked.Passed tokens oracles) × Passed (now code) (λ s. (s .tokens ≡ tokens) × (s .lookups ≡ lookups)) ⌝ }
     ensures { λ r. ⌜ record { answer = r; records = recordsOf (now (kinds .exit)) (now (numbers .exit)) (now (places .exit)) (now (keys .exit)) } ≡ wrote (now (code .entry)) (recordsOf (now (kinds .entry)) (now (numbers .entry)) (now (places .entry)) (now (keys .entry))) ⌝ }
 {
     if tokens <= FEW_TOKENS {
@@ -101,6 +104,7 @@ fn write_passed(
             code,
             tokens,
             oracles,
+            lookups,
             kinds,
             numbers,
             places,
@@ -116,6 +120,7 @@ fn write_passed(
             code,
             tokens,
             oracles,
+            lookups,
             kinds,
             numbers,
             places,
@@ -130,6 +135,7 @@ fn write_passed(
         code,
         tokens,
         oracles,
+        lookups,
         kinds,
         numbers,
         places,
@@ -150,10 +156,17 @@ pub fn write(
 ) -> Written
     ensures { λ r. ⌜ record { answer = r; records = recordsOf (now (kinds .exit)) (now (numbers .exit)) (now (places .exit)) (now (keys .exit)) } ≡ wrote (now (code .entry)) (recordsOf (now (kinds .entry)) (now (numbers .entry)) (now (places .entry)) (now (keys .entry))) ⌝ }
 {
-    match condition::check(code) {
-        Checked::Refused(r) => Written::Refused(r),
-        Checked::Passed { tokens, oracles } => {
-            write_passed(code, tokens, oracles, kinds, numbers, places, keys)
-        }
+    match condition::examine(code) {
+        Examined::Refused(r) => Written::Refused(r),
+        Examined::Passed(s) => write_passed(
+            code,
+            s.tokens as usize,
+            s.oracles,
+            s.lookups,
+            kinds,
+            numbers,
+            places,
+            keys,
+        ),
     }
 }

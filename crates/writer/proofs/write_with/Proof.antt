@@ -12,8 +12,9 @@ use Rattle.semantics.specs.declared.Checked.{Checked}
 use Rattle.semantics.specs.Check.{checked}
 use Rattle.semantics.specs.Records.{Records, recordsOf}
 use Rattle.semantics.specs.Write.{roomFor}
+use Rattle.condition.proofs.Onward.{passed-as}
 use Rattle.conversions.specs.Marks.{narrowCode}
-use Rattle.writer.proofs.Answers.{coded, few-keys, fits, key-room, keys-bound, refused-narrow, refused-room, room, short, wrote-all}
+use Rattle.writer.proofs.Answers.{few-keys, key-room, keys-bound, refused-narrow, refused-room, room, short, wrote-all}
 use Rattle.writer.proofs.write_with.Statement.{statement}
 use Rattle.writer.proofs.write_with.Tie as tie
 
@@ -65,7 +66,7 @@ returns c =
 find-keys-requires : tie.Need-find-keys-requires
 find-keys-requires c κs =
     let k = c .before .before .before .before .before .before .before .before .before .before .before .before .before .before .before in (
-      coded (code k) (tokens k) (oracles k) _ (passes k) (omega (arith, k .before .pre .1)),
+      passed-as (λ s f. omega (arith, f .1)) (k .before .pre .1),
       short (code k) (tokens k) (oracles k) (passes k),
       keys-bound (code k) (bytes k) (old k) (tokens k) (oracles k) (passes k),
     )
@@ -83,7 +84,7 @@ write-records-requires c κs =
     let f = found u in
     let k = k f in
     let marked = f .before .before .before .before .before .before .before .mark .ensures .marked (not-false _ (f .before .before .if1 .left)) in (
-      (coded (code k) (tokens k) (oracles k) _ (passes k) (omega (arith, k .before .pre .2)), few f, f .find-keys .ensures .noted),
+      (passed-as (λ s f. omega (arith, f .2)) (k .before .pre .1), few f, f .find-keys .ensures .noted),
       room (code k) (bytes k) (old k) (tokens k) (oracles k) (passes k) (narrow-told f) _ _ (f .find-keys .ensures) (roomy u) _ _ marked,
     )
 
@@ -108,7 +109,7 @@ pub write-with-spec : {M : Type 1} → statement M
 write-with-spec =
     tie.close
     (tie.spec
-    (λ c κs. let k = c .before .before .before .before .before .before .before .before in fits (code k) (tokens k) (oracles k) _ _ (passes k) (k .before .pre .1) (k .before .pre .2))
+    (λ c κs. let s = c .before .before .before .before .before .before .before .before .before in (s .pre .1, s .pre .2))
     (λ c. search needs)
     (λ c. search needs)
     returns
