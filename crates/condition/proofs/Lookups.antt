@@ -10,12 +10,13 @@ use lib.ListN.{length}
 use Rattle.slices.specs.Bytes.{All}
 use Rattle.semantics.specs.declared.Command.{Command}
 use Rattle.semantics.specs.Code.{Made, commandOf, commandRow, needMet, needOf}
-use Rattle.semantics.specs.Parse.{Instruction, Walk, given, fold, instructions, passes}
-use Rattle.semantics.proofs.Counts.{given-one}
+use Rattle.semantics.specs.Parse.{Instruction, Walk, fold, instructions, passes}
+use Rattle.summary.proofs.Counts.{given-one}
 use Rattle.semantics.proofs.Instructions.{need-known}
 use Rattle.semantics.proofs.Machine.{refused-stays}
 use Rattle.semantics.proofs.Tests.{and-true}
 use Rattle.summary.specs.declared.Summary.{Summary}
+use Rattle.summary.specs.Step.{given}
 use Rattle.summary.proofs.Bounds.{some-token}
 use Rattle.condition.specs.declared.Walked.{Walked}
 use Rattle.condition.specs.Walk.{Passed, counts, ended, next, start, summaryStep, walked}

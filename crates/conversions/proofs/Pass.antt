@@ -12,14 +12,14 @@ use Rattle.slices.proofs.Bytes.{all-drop}
 use Rattle.slices.proofs.Stack.{length-stack}
 use Rattle.semantics.specs.declared.Command.{Command}
 use Rattle.semantics.specs.Code.{Made, commandRow, needMet, maxTokens}
-use Rattle.semantics.specs.Parse.{after, commandAt, fold, given, instructions, operandsAt}
+use Rattle.semantics.specs.Parse.{after, commandAt, fold, instructions, operandsAt}
 use Rattle.semantics.specs.Token.{narrow}
-use Rattle.semantics.proofs.Counts.{given-one}
+use Rattle.summary.proofs.Counts.{given-one}
 use Rattle.semantics.proofs.Machine.{fold-ends, fold-takes}
 use Rattle.summary.specs.declared.Summary.{Summary}
+use Rattle.summary.specs.Step.{given}
 use Rattle.condition.specs.Walk.{Passed, next, start}
 use Rattle.condition.proofs.Position.{Position, passes-on, position-below, position-next, position-start}
-use Rattle.token_table.specs.TokenRows.{ownTokens}
 use Rattle.conversions.specs.Marks.{Fits, Found, Marking, Ready, ending, markStep, markingIn, marksOf, narrowCode, narrowStep, settled, stackIn}
 use Rattle.conversions.proofs.Narrow.{narrow-stays}
 
@@ -124,7 +124,7 @@ module _ (code : List ℕ) (lookups room size : ℕ) (waiting : List ℕ) (marks
         }
 
     -- 6 turns the command down
-    pub loop-refused : (any : List Bool) → false ≡ narrow (ownTokens command (operandsAt code at)) → Found code any false
+    pub loop-refused : (any : List Bool) → false ≡ narrow (commandRow command .tokens (operandsAt code at)) → Found code any false
     loop-refused any e =
         let w = sym (l .narrow) ∙ fold-takes narrowStep code at inside true ∙ ap (λ (b : Bool). fold narrowStep b (instructions (drop (after code at) code))) (sym e) in
         record {
@@ -133,7 +133,7 @@ module _ (code : List ℕ) (lookups room size : ℕ) (waiting : List ℕ) (marks
         }
 
     -- one turn, by what `step` promises
-    pub loop-next : true ≡ narrow (ownTokens command (operandsAt code at)) → (waiting′ : List ℕ) (marks′ : List Bool) (indexes′ : ℕ)
+    pub loop-next : true ≡ narrow (commandRow command .tokens (operandsAt code at)) → (waiting′ : List ℕ) (marks′ : List Bool) (indexes′ : ℕ)
         → length waiting′ ≡ length waiting → length marks′ ≡ length marks
         → markingIn waiting′ indexes′ marks′ count ≡ settled (markingIn waiting indexes marks count) command
         → Loop code lookups room size waiting′ (set marks′ count false) (after code at) (count + 1) indexes′

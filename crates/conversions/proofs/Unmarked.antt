@@ -8,17 +8,16 @@ use lib.ListN.{length, drop, replicate, replicate-append-replicate}
 use lib.Seq.{drop-at}
 use Rattle.slices.specs.Bytes.{All}
 use Rattle.semantics.specs.declared.Command.{Command}
-use Rattle.semantics.specs.Code.{commandOf}
+use Rattle.semantics.specs.Code.{commandOf, commandRow}
 use Rattle.semantics.specs.Parse.{Instruction, fold, instructions}
 use Rattle.semantics.specs.Token.{narrow}
 use Rattle.condition.specs.Walk.{Passed}
 use Rattle.condition.proofs.Lookups.{NoIndex, few-commands, no-index}
-use Rattle.token_table.specs.TokenRows.{ownTokens}
 use Rattle.conversions.specs.Marks.{Fits, Found, Marking, Unmarked, markStep, marksOf, narrowCode, narrowStep, unmarked}
 use Rattle.conversions.proofs.Narrow.{binary-narrow, compare-narrow, list-narrow, unary-narrow}
 
 -- a command that makes no index is narrow
-own-narrow : (c : Command) (n : List ℕ) → NoIndex c → narrow (ownTokens c n) ≡ true
+own-narrow : (c : Command) (n : List ℕ) → NoIndex c → narrow (commandRow c .tokens n) ≡ true
 own-narrow Command.Unknown n h = refl
 own-narrow Command.IdxConst n h = absurd (omega (arith, h .1))
 own-narrow Command.CurrIdx n h = refl

@@ -12,11 +12,10 @@ use Rattle.semantics.specs.Code.{Made, commandRow, needMet, maxTokens}
 use Rattle.semantics.specs.Parse.{fold, instructions}
 use Rattle.semantics.specs.Token.{narrow}
 use Rattle.summary.specs.declared.Summary.{Summary}
-use Rattle.token_table.specs.TokenRows.{ownTokens}
 
--- whether a command has a token more than those that it writes itself: SCRIPTNUMTOLE64, between its operands' tokens
+-- whether a command has a token between its operands' tokens, which is SCRIPTNUMTOLE64
 abbrev pub converts : Command → Bool
-converts c = ltb (length (ownTokens c [])) (commandRow c .tokens)
+converts c = ltb 0 (length (commandRow c .between))
 
 -- after some commands: of each whether it is marked so far, and the commands that ended the index operands that wait, the last one first
 pub record Marking : Type 0 where
@@ -52,7 +51,7 @@ marksOf code = fold markStep unmarked (instructions code) .marks
 
 -- 6: "an index constant of 2^32 or more"
 abbrev pub narrowStep : Bool → Command → List ℕ → Bool
-narrowStep b c n = b && narrow (ownTokens c n)
+narrowStep b c n = b && narrow (commandRow c .tokens n)
 
 unfoldable pub narrowCode : List ℕ → Bool
 narrowCode code = fold narrowStep true (instructions code)

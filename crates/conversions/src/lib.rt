@@ -13,7 +13,6 @@ ghost use Rattle.semantics.specs.Code.{commandRow, maxTokens};
 ghost use Rattle.conversions.specs.Marks.{Fits, Found, Ready, Unmarked, converts, markingIn, settled, stackIn};
 ghost use Rattle.semantics.specs.Parse.{operandBytes};
 ghost use Rattle.semantics.specs.Token.{narrow};
-ghost use Rattle.token_table.specs.TokenRows.{ownTokens};
 ghost use Rattle.condition.specs.Walk.{Passed};
 
 // A Num holds less: 2^32.
@@ -34,7 +33,7 @@ fn converts_left(op: IdxOp) -> bool
 // Refusal 6 does not fall on a command, whose operand bytes stand at `at`.
 fn is_narrow(command: Command, code: &[u8], at: usize) -> bool
     requires { ⌜ at + commandRow command .width ≤ length (now code) ⌝ }
-    ensures { λ r. ⌜ r ≡ narrow (ownTokens command (operandBytes command (now (code .entry)) at)) ⌝ }
+    ensures { λ r. ⌜ r ≡ narrow (commandRow command .tokens (operandBytes command (now (code .entry)) at)) ⌝ }
 {
     match command {
         Command::Unknown => true,

@@ -5,11 +5,11 @@ use mathlib.Core.List.{List}
 use native.Mathlib.Omega.{arith}
 use borrow.Author.Tests.{not-false, not-true}
 use lib.ListN.{length}
+use Rattle.semantics.specs.Code.{commandRow}
 use Rattle.semantics.specs.declared.Command.{Command}
 use Rattle.semantics.specs.Parse.{after, commandAt, operandsAt}
 use Rattle.semantics.specs.Token.{narrow}
 use Rattle.commands.specs.declared.Cursor.{Cursor}
-use Rattle.token_table.specs.TokenRows.{ownTokens}
 use Rattle.conversions.proofs.Pass.{Loop, loop-below, loop-found, loop-next, loop-operands, loop-ready, loop-refused, loop-start}
 use Rattle.conversions.proofs.Unmarked.{found-unmarked}
 use Rattle.conversions.proofs.mark.Statement.{statement}
@@ -53,7 +53,7 @@ module _ (n : tie.After-next Inv-loop μ-loop) where
 -- what `is_narrow` tells of the command
 narrow-told : (c : tie.After-is-narrow Inv-loop μ-loop)
     → let t = c .before .before in
-    c .is-narrow .result ≡ narrow (ownTokens (command t) (operandsAt (code t) (a t .loop .at)))
+    c .is-narrow .result ≡ narrow (commandRow (command t) .tokens (operandsAt (code t) (a t .loop .at)))
 narrow-told c =
     let one : c .before .next .result .operands ≡ suc (a (c .before .before) .loop .at) = omega (arith, operands-at (c .before)) in
     rw (command-is (c .before), one) at (c .is-narrow .ensures)
