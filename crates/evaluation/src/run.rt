@@ -131,11 +131,13 @@ fn fetch(
     requires { ⌜ Fetches (now code) (now vals) (now idxs) spot ⌝ }
     ensures { λ r. ⌜ Fetched (envOf (now (spent .entry)) (now («spent_marks» .entry)) (now (outputs .entry)) (now («output_marks» .entry)) (now (issued .entry)) (now («issued_marks» .entry)) (now (reissued .entry)) (now («reissued_marks» .entry)) current) (now (code .entry)) (now (vals .entry)) (now (idxs .entry)) spot (now (vals .exit)) (now (idxs .exit)) r ⌝ }
 {
+    let at = spot.at;
     let values = spot.values;
     let indexes = spot.indexes;
-    let cursor = commands::next(code, spot.at);
-    let command = cursor.command;
-    let operands = cursor.operands;
+    // by the byte, and not by `commands::next`: the compiler then goes from the byte to the command's own lines at once
+    let command = commands::command_of(code[at]);
+    let operands = at + 1;
+    let next = operands + commands::width_of(command);
     match stacks::step(
         command,
         code,
@@ -146,7 +148,7 @@ fn fetch(
         values,
         indexes,
     ) {
-        Effect::Turned(turn) => onward(turn, cursor.next),
+        Effect::Turned(turn) => onward(turn, next),
         Effect::Amount(list, index, rest) => {
             let turn = step_lookup(
                 list,
@@ -163,7 +165,7 @@ fn fetch(
                 values,
                 rest,
             );
-            onward(turn, cursor.next)
+            onward(turn, next)
         }
         Effect::Oracle => Next::Oracle(Spot {
             at: operands,
