@@ -1,14 +1,17 @@
 // The amount lists: whether they are sound, and a lookup in one of them.
+use index64::Step;
 use semantics::AmountList;
 use semantics::Refusal;
 use semantics::Value;
 ghost use mathlib.Core.Path.{_≡_};
 ghost use Prim.Native.Nat.{ℕ};
 ghost use lib.IntN.{pos};
+ghost use Rattle.index64.specs.Steps.{stepped};
 ghost use Rattle.semantics.specs.Operations.{listRow};
-ghost use Rattle.semantics.specs.Evaluation.{amount, amounts};
+ghost use Rattle.semantics.specs.Evaluation.{amount};
 ghost use Rattle.semantics.specs.Evaluate.{areMarks, envSound, paired};
 ghost use Rattle.amounts.specs.Lists.{amountsOf, envOf};
+ghost use Rattle.amounts.specs.Looked.{looked};
 
 // ---- refusal 8
 
@@ -118,10 +121,13 @@ pub fn looked_up(
     issued_marks: &[u8],
     reissued: &[u64],
     reissued_marks: &[u8],
-    index: i64,
+    step: Step,
 ) -> Value
-    ensures { λ r. ⌜ ((current : ℕ) → r ≡ amount (amounts (envOf (now (spent .entry)) (now («spent_marks» .entry)) (now (outputs .entry)) (now («output_marks» .entry)) (now (issued .entry)) (now («issued_marks» .entry)) (now (reissued .entry)) (now («reissued_marks» .entry)) current) list) list index) ⌝ }
+    ensures { λ r. ⌜ ((current : ℕ) → r ≡ looked (envOf (now (spent .entry)) (now («spent_marks» .entry)) (now (outputs .entry)) (now («output_marks» .entry)) (now (issued .entry)) (now («issued_marks» .entry)) (now (reissued .entry)) (now («reissued_marks» .entry)) current) list (stepped step)) ⌝ }
 {
+    let Step::Value(index) = step else {
+        return Value::Refused(Refusal::IndexStep);
+    };
     if index < 0 {
         return Value::Refused(Refusal::NegativeIndex);
     }

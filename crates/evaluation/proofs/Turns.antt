@@ -3,6 +3,7 @@ use Prim.Native.Nat.{ℕ, suc, _+_, _-_, _*_, _<_}
 use mathlib.Core.Path.{_≡_, refl, sym, ap, _∙_}
 use mathlib.Core.Bool.{true}
 use mathlib.Core.List.{List, []}
+use mathlib.Core.Option.{Option, none, some}
 use native.Mathlib.Omega.{arith}
 use lib.IntN.{ℤ}
 use lib.ListN.{length, take, drop}
@@ -11,10 +12,13 @@ use Rattle.semantics.specs.declared.Command.{Command}
 use Rattle.semantics.specs.declared.Value.{Value}
 use Rattle.semantics.specs.Code.{commandRow}
 use Rattle.semantics.specs.Evaluate.{endsSound}
-use Rattle.semantics.specs.Evaluation.{Env, Outcome, State, amount, amounts, oracle, popping}
+use Rattle.semantics.specs.Evaluation.{Env, Outcome, State, oracle, popping}
 use Rattle.semantics.specs.Parse.{after, commandAt, fold, instructions, operandsAt}
-use Rattle.stacks.specs.Run.{Move, Run, act, afterLook, fetched, move, moved, onValue, pushValue, runStep}
+use Rattle.stacks.specs.Run.{Move, Run, act, afterLook, fetched, lookAt, move, moved, onValue, pushValue, runStep}
 use Rattle.stacks.proofs.Run.{fetched-moved, value-moved}
+use Rattle.index64.specs.declared.Step.{Step}
+use Rattle.index64.specs.Steps.{stepped}
+use Rattle.amounts.specs.Looked.{looked}
 use Rattle.commands.specs.declared.Cursor.{Cursor}
 use Rattle.commands.specs.Cursor.{cursorAt}
 use Rattle.condition.specs.Walk.{Passed}
@@ -36,6 +40,11 @@ pub fetched-turn : (env : Env) (code : List ℕ) (values indexes : List ℤ) (s 
     → Fetched env code values indexes s values′ indexes′ (nextOf (after code (s .at)) t)
 fetched-turn env code values indexes s values′ indexes′ (Turn.On v i) f = record { at = refl; moves = f }
 fetched-turn env code values indexes s values′ indexes′ (Turn.Ended r) f = record { at = tt; moves = f }
+
+-- a lookup made apart from the state
+looked-fetched : (env : Env) (l : AmountList) (vs is : List ℤ) (o : Option ℤ) → onValue vs is (looked env l o) ≡ fetched env (lookAt l vs is o)
+looked-fetched env l vs is none = refl
+looked-fetched env l vs is (some i) = refl
 
 -- the same of the command that the cursor names, by its effect
 module _ (env : Env) (code : List ℕ) (values indexes : List ℤ) (s : Spot) (values′ indexes′ : List ℤ) (k : Cursor) (known : k ≡ cursorAt code (s .at)) where
@@ -63,11 +72,13 @@ module _ (env : Env) (code : List ℕ) (values indexes : List ℤ) (s : Spot) (v
           rw (is, known)
           (fetched-turn env code values indexes s values′ indexes′ t (turn-fetched t ∙ ap (fetched env) ((rw p at f) ∙ here)))
 
-      pub looked : (list : AmountList) (i : ℤ) (rest : ℕ) → e ≡ Effect.Amount list i rest → (values″ : List ℤ)
-          → moveOf values″ indexes′ t ≡ onValue (waiting values′ (s .values)) (waiting indexes′ rest) (amount (amounts env list) list i)
+      pub asked : (list : AmountList) (i : Step) (rest : ℕ) → e ≡ Effect.Amount list i rest → (values″ : List ℤ)
+          → moveOf values″ indexes′ t ≡ onValue (waiting values′ (s .values)) (waiting indexes′ rest) (looked env list (stepped i))
           → Fetched env code values indexes s values″ indexes′ r
-      looked list i rest p values″ g =
-          rw (is, known) (fetched-turn env code values indexes s values″ indexes′ t (g ∙ ap (fetched env) ((rw p at f) ∙ here)))
+      asked list i rest p values″ g =
+          rw (is, known)
+          (fetched-turn env code values indexes s values″ indexes′ t
+          (g ∙ looked-fetched env list (waiting values′ (s .values)) (waiting indexes′ rest) (stepped i) ∙ ap (fetched env) ((rw p at f) ∙ here)))
 
     pub waits : OracleOnly (k .command) e → e ≡ Effect.Oracle
         → Fetched env code values indexes s values′ indexes′ (Next.Oracle (record { at = k .operands; values = s .values; indexes = s .indexes }))

@@ -14,12 +14,14 @@ ghost use mathlib.Core.List.{List, []};
 ghost use Prim.Native.Nat.{ℕ, _+_, _<_, _^_};
 ghost use lib.IntN.{ℤ};
 ghost use lib.ListN.{length};
+ghost use Rattle.index64.specs.Steps.{stepped};
 ghost use Rattle.semantics.specs.declared.Command.{Command};
-ghost use Rattle.semantics.specs.Evaluation.{amount, amounts, popping};
+ghost use Rattle.semantics.specs.Evaluation.{popping};
 ghost use Rattle.semantics.specs.Evaluate.{endsSound};
 ghost use Rattle.semantics.specs.Parse.{fold, instructions};
 ghost use Rattle.condition.specs.Walk.{Passed};
 ghost use Rattle.amounts.specs.Lists.{envOf};
+ghost use Rattle.amounts.specs.Looked.{looked};
 ghost use Rattle.witness.specs.Elements.{stateOf};
 ghost use Rattle.evaluation.specs.Run.{Answers, Fetched, Fetches, Pushed, Room, nextAfter, nextOf};
 ghost use Rattle.stacks.specs.Stacks.{moveOf, waiting};
@@ -48,10 +50,10 @@ enum Step {
     Ended(Verdict),
 }
 
-// The amount of a list at an index: it is pushed.
+// The amount of a list where an index step led: it is pushed.
 fn step_lookup(
     list: AmountList,
-    index: i64,
+    step: index64::Step,
     spent: &[u64],
     spent_marks: &[u8],
     outputs: &[u64],
@@ -65,7 +67,7 @@ fn step_lookup(
     indexes: usize,
 ) -> Turn
     requires { ⌜ values < length (now vals) ⌝ }
-    ensures { λ r. ⌜ ((current : ℕ) (idxs : List ℤ) → moveOf (now (vals .exit)) idxs r ≡ onValue (waiting (now (vals .entry)) values) (waiting idxs indexes) (amount (amounts (envOf (now (spent .entry)) (now («spent_marks» .entry)) (now (outputs .entry)) (now («output_marks» .entry)) (now (issued .entry)) (now («issued_marks» .entry)) (now (reissued .entry)) (now («reissued_marks» .entry)) current) list) list index)) ⌝ }
+    ensures { λ r. ⌜ ((current : ℕ) (idxs : List ℤ) → moveOf (now (vals .exit)) idxs r ≡ onValue (waiting (now (vals .entry)) values) (waiting idxs indexes) (looked (envOf (now (spent .entry)) (now («spent_marks» .entry)) (now (outputs .entry)) (now («output_marks» .entry)) (now (issued .entry)) (now («issued_marks» .entry)) (now (reissued .entry)) (now («reissued_marks» .entry)) current) list (stepped step))) ⌝ }
 {
     let v = amounts::looked_up(
         list,
@@ -77,7 +79,7 @@ fn step_lookup(
         issued_marks,
         reissued,
         reissued_marks,
-        index,
+        step,
     );
     push_value(vals, v, values, indexes)
 }
@@ -149,10 +151,10 @@ fn fetch(
         indexes,
     ) {
         Effect::Turned(turn) => onward(turn, next),
-        Effect::Amount(list, index, rest) => {
+        Effect::Amount(list, step, rest) => {
             let turn = step_lookup(
                 list,
-                index,
+                step,
                 spent,
                 spent_marks,
                 outputs,

@@ -11,14 +11,13 @@ use semantics::Value;
 use semantics::Verdict;
 ghost use mathlib.Core.Path.{_≡_};
 ghost use mathlib.Core.List.{List, _∷_};
-ghost use Prim.Native.Nat.{ℕ, _+_, _-_, _≤_, _<_};
+ghost use Prim.Native.Nat.{_+_, _-_, _≤_, _<_};
 ghost use lib.IntN.{ℤ};
 ghost use lib.ListN.{length, take, drop};
 ghost use Rattle.index64.specs.Steps.{stepped};
 ghost use Rattle.semantics.specs.Operations.{binRow, cmpRow, idxRow, unRow};
 ghost use Rattle.semantics.specs.Code.{commandRow};
-ghost use Rattle.semantics.specs.declared.Command.{Command};
-ghost use Rattle.stacks.specs.Run.{Move, lookAt, move, onIndex, onValue, operand};
+ghost use Rattle.stacks.specs.Run.{Move, move, onIndex, onValue, operand};
 ghost use Rattle.stacks.specs.Stacks.{OracleOnly, Ready, effectOf, moveOf, waiting};
 
 // What a command leads to: so many values and indexes that wait, or the end of the evaluation.
@@ -28,10 +27,10 @@ pub enum Turn {
 }
 
 // What a command does: all of it with the operands that wait, or a value from elsewhere is still to be pushed.
-// That is the amount of a list at an index, with so many indexes left, or the price of an oracle terminal.
+// That is the amount of a list where an index step led, with so many indexes left, or the price of an oracle terminal.
 pub enum Effect {
     Turned(Turn),
-    Amount(AmountList, i64, usize),
+    Amount(AmountList, Step, usize),
     Oracle,
 }
 
@@ -106,16 +105,6 @@ fn step_compare(op: CmpOp, vals: &[i64], values: usize) -> Turn
     Turn::Ended(Verdict::Is(operations::compare(op, vals[values - 2], vals[values - 1])))
 }
 
-// A list is asked where an index step led, if it led to an index.
-fn look(list: AmountList, s: Step, indexes: usize) -> Effect
-    ensures { λ r. ⌜ ((command : Command) → OracleOnly command r) × ((n : List ℕ) (vals idxs : List ℤ) (values i : ℕ) → effectOf n vals values idxs i r ≡ lookAt list (waiting vals values) (waiting idxs indexes) (stepped s)) ⌝ }
-{
-    match s {
-        Step::Value(index) => Effect::Amount(list, index, indexes),
-        Step::Overflow => Effect::Turned(Turn::Ended(Verdict::Refused(Refusal::IndexStep))),
-    }
-}
-
 // One command, whose operand bytes stand at `at`. Check refuses code with an unknown one, so that there is none here.
 pub fn step(
     command: Command,
@@ -145,10 +134,12 @@ pub fn step(
             let z = word64::signed(slices::read_le64(code, at));
             Effect::Turned(push_value(vals, Value::Number(z), values, indexes))
         }
-        Command::CurrInputIdx => look(AmountList::Input, index64::from_u64(current), indexes),
+        Command::CurrInputIdx => {
+            Effect::Amount(AmountList::Input, index64::from_u64(current), indexes)
+        }
         Command::Lookup(list) => {
-            let index = last_index(idxs, indexes);
-            Effect::Amount(list, index, indexes - 1)
+            let i = Step::Value(last_index(idxs, indexes));
+            Effect::Amount(list, i, indexes - 1)
         }
         Command::Binary(op) => Effect::Turned(step_binary(op, vals, values, indexes)),
         Command::Unary(op) => Effect::Turned(step_unary(op, vals, values, indexes)),

@@ -1,7 +1,5 @@
 -- What the stacks do is the callee's; a lookup is pushed, and an oracle terminal is still to be asked.
-use borrow.Author.Needs.{needs, sfits-of}
-use mir.Syntax.{w64}
-use mir.Facts.{toZ-ofZ}
+use borrow.Author.Needs.{needs}
 use Prim.Native.Nat.{_+_}
 use mathlib.Core.Path.{_≡_, ap, _∙_}
 use native.Mathlib.Omega.{arith}
@@ -11,7 +9,7 @@ use Rattle.semantics.specs.Evaluation.{Env}
 use Rattle.commands.specs.declared.Cursor.{Cursor}
 use Rattle.commands.specs.Cursor.{cursorAt}
 use Rattle.amounts.specs.Lists.{envOf}
-use Rattle.evaluation.proofs.Turns.{looked, turned, waits}
+use Rattle.evaluation.proofs.Turns.{asked, turned, waits}
 use Rattle.evaluation.proofs.run.fetch.Statement.{statement}
 use Rattle.evaluation.proofs.run.fetch.Tie as tie
 
@@ -58,11 +56,9 @@ returns-2 c =
     let w = u .before .before .before in
     let s = start (w .before) in
     let a = s .args in
-    let index = t .list .given .0 .1 .0 in
-    let amount = l .step-lookup .ensures (a .current) (u .step .last .1 .1 .1 .1 .1 .0) in
-    looked (env s) (a .code .now) (a .vals .now) (a .idxs .now) (a .spot) (u .step .last .1 .1 .1 .1 .0) (u .step .last .1 .1 .1 .1 .1 .0) (cursor w) (here w)
+    asked (env s) (a .code .now) (a .vals .now) (a .idxs .now) (a .spot) (u .step .last .1 .1 .1 .1 .0) (u .step .last .1 .1 .1 .1 .1 .0) (cursor w) (here w)
     (u .step .result) (u .step .ensures .1) (l .step-lookup .result) (c .onward2 .result) (c .onward2 .ensures) _ _ _ (t .list .given .1)
-    (l .step-lookup .last .1 .1 .1 .1 .1 .1 .1 .1 .1 .1 .0) (rw (toZ-ofZ {w = w64} {z = index} (sfits-of (l .before .before .known-told2 .given .1 .0 .1))) at amount)
+    (l .step-lookup .last .1 .1 .1 .1 .1 .1 .1 .1 .1 .1 .0) (l .step-lookup .ensures (a .current) _)
 
 returns-3 : tie.Need-returns-3
 returns-3 c =
