@@ -8,9 +8,30 @@ use semantics::UnOp;
 ghost use mathlib.Core.Path.{_≡_};
 ghost use Prim.Native.Nat.{_≤_};
 ghost use lib.ListN.{length};
-ghost use Rattle.semantics.specs.Code.{commandOf, commandRow};
+ghost use mathlib.Core.List.{map};
+ghost use Rattle.semantics.specs.declared.Command.{Command};
+ghost use Rattle.semantics.specs.Code.{commandIn, commandOf, commandRow};
+ghost use Rattle.semantics.specs.Operations.{cmpOps};
 ghost use Rattle.semantics.specs.Parse.{after};
 ghost use Rattle.commands.specs.Cursor.{cursorAt};
+
+// The comparison that a byte stands for. The test comes first, so that the compiler does not make one table of these bytes and those of `command_of`: that would be
+// too large for it to take `next` into the loops that call it.
+fn comparison_of(byte: u8) -> Command
+    ensures { λ r. ⌜ r ≡ commandIn (map Command.Compare cmpOps) byte ⌝ }
+{
+    if byte < 48 {
+        return Command::Unknown;
+    }
+    match byte {
+        48 => Command::Compare(CmpOp::Eq),
+        49 => Command::Compare(CmpOp::Lt),
+        50 => Command::Compare(CmpOp::Leq),
+        51 => Command::Compare(CmpOp::Gt),
+        52 => Command::Compare(CmpOp::Geq),
+        _ => Command::Unknown,
+    }
+}
 
 // The command that a byte stands for.
 pub fn command_of(byte: u8) -> Command
@@ -41,12 +62,7 @@ pub fn command_of(byte: u8) -> Command
         31 => Command::Unary(UnOp::Negate),
         32 => Command::PriceOracle1,
         33 => Command::PriceOracle1W,
-        48 => Command::Compare(CmpOp::Eq),
-        49 => Command::Compare(CmpOp::Lt),
-        50 => Command::Compare(CmpOp::Leq),
-        51 => Command::Compare(CmpOp::Gt),
-        52 => Command::Compare(CmpOp::Geq),
-        _ => Command::Unknown,
+        _ => comparison_of(byte),
     }
 }
 

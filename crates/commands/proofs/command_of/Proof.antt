@@ -1,10 +1,19 @@
--- In each arm the byte is known, and `commandOf` computes; in the last it is no command's.
+-- In each arm the byte is known, and `commandOf` computes; in the last it is that of no command but a comparison.
+use borrow.Author.Needs.{needs}
 use Prim.Native.Nat.{ℕ}
-use mathlib.Core.Path.{_≡_, sym, ap}
-use Rattle.semantics.specs.Code.{commandOf}
-use Rattle.semantics.proofs.Instructions.{unknown-byte}
+use mathlib.Core.Path.{_≡_, sym, ap, _∙_}
+use mathlib.Core.List.{List, map}
+use lib.ListN.{take}
+use Rattle.semantics.specs.declared.Command.{Command}
+use Rattle.semantics.specs.Code.{commandOf, commands}
+use Rattle.semantics.specs.Operations.{cmpOps}
+use Rattle.commands.proofs.Bytes.{not-first}
 use Rattle.commands.proofs.command_of.Statement.{statement}
 use Rattle.commands.proofs.command_of.Tie as tie
+
+-- the commands before the comparisons
+abbrev others : List Command
+others = take 24 commands
 
 is : (n : ℕ) {b : ℕ} → b ≡ n → commandOf n ≡ commandOf b
 is n e = ap commandOf (sym e)
@@ -14,6 +23,7 @@ unfolding commandOf
 command-of-spec =
     tie.close
     (tie.spec
+    (λ c κs. search needs)
     (λ c. is 1 (c .match .keys1))
     (λ c. is 2 (c .match .keys2))
     (λ c. is 3 (c .match .keys3))
@@ -38,9 +48,4 @@ command-of-spec =
     (λ c. is 31 (c .match .keys22))
     (λ c. is 32 (c .match .keys23))
     (λ c. is 33 (c .match .keys24))
-    (λ c. is 48 (c .match .keys25))
-    (λ c. is 49 (c .match .keys26))
-    (λ c. is 50 (c .match .keys27))
-    (λ c. is 51 (c .match .keys28))
-    (λ c. is 52 (c .match .keys29))
-    (λ c. unknown-byte (c .before .args .byte) (c .match .rest)))
+    (λ c. c .comparison-of .ensures ∙ not-first others (map Command.Compare cmpOps) (c .before .before .args .byte) (c .before .match .rest)))

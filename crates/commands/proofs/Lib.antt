@@ -1,0 +1,2 @@
+-- Laws of the list of commands.
+pub mod Bytes
