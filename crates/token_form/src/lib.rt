@@ -63,27 +63,32 @@ fn numbers_of(command: Command, code: &[u8], at: usize) -> Numbers
     }
 }
 
-// The number of a record.
-fn number_at(kind: u8, number: u64, bits: u64) -> u64
-    ensures { λ r. ⌜ r ≡ numberAt number bits kind ⌝ }
-{
-    if BYTES32 < kind {
-        return 0;
-    }
-    if kind == NUM {
-        return number;
-    }
-    if kind == BYTES8 {
-        return bits;
-    }
-    0
+// The number and the place of a record.
+struct Fields {
+    number: u64,
+    place: u32,
 }
 
-// The place of a record.
-fn place_at(kind: u8, place: u32) -> u32
-    ensures { λ r. ⌜ r ≡ placeAt place kind ⌝ }
+// Most kinds carry nothing, so that they are tested for first.
+fn fields_at(kind: u8, number: u64, bits: u64, place: u32) -> Fields
+    ensures { λ r. ⌜ (r .number ≡ numberAt number bits kind) × (r .place ≡ placeAt place kind) ⌝ }
 {
-    if kind == BYTES32 { place } else { 0 }
+    if BYTES32 < kind {
+        return Fields { number: 0, place: 0 };
+    }
+    if kind == NUM {
+        return Fields { number, place: 0 };
+    }
+    if kind == BYTES8 {
+        return Fields {
+            number: bits,
+            place: 0,
+        };
+    }
+    if kind == BYTES32 {
+        return Fields { number: 0, place };
+    }
+    Fields { number: 0, place: 0 }
 }
 
 // The records of the first `count` kinds of a row.
@@ -106,8 +111,9 @@ fn write_row(
     while j < count {
         let kind = row[j];
         kinds[j] = kind;
-        numbers[j] = number_at(kind, number, bits);
-        places[j] = place_at(kind, place);
+        let fields = fields_at(kind, number, bits, place);
+        numbers[j] = fields.number;
+        places[j] = fields.place;
         j += 1;
     }
 }
@@ -233,6 +239,7 @@ fn write_next(
         }
     }
     let command = command_of(byte);
+    let width = width_of(command);
     let records = write_command(
         command,
         marked,
@@ -244,10 +251,7 @@ fn write_next(
         numbers,
         places,
     );
-    Next {
-        records,
-        width: width_of(command),
-    }
+    Next { records, width }
 }
 
 // The records of all commands, of which `marks` says which are marked; their keys are those at the first `key_count` positions.

@@ -95,17 +95,17 @@ returns-2 c =
 
 write-command-requires : tie.Need-write-command-requires
 write-command-requires c κs =
-    let a = c .before .before .before in
+    let a = c .before .before .before .before in
     let s = a .before .before .before .before .before .before .before in
     rw (a .command-of .ensures) (s .pre)
 
 returns-3 : tie.Need-returns-3
 returns-3 c =
-    let w = c .before .before .before .before .before .before .before in
-    let a = w .before .before .before .before in
-    let e = rw (a .command-of .ensures) at (w .write-command .ensures) in
-    let f = rw (a .command-of .ensures) at (c .width-of .ensures) in
-    ((e .0, f), e .1)
+    let w = c .before .before .before .before .before .before in
+    let v = w .before .before .before .before in
+    let told = v .before .command-of .ensures in
+    let e = rw told at (w .write-command .ensures) in
+    ((e .0, rw told at (v .width-of .ensures)), e .1)
 
 pub write-next-spec : {M : Type 1} → statement M
 write-next-spec =
@@ -124,8 +124,8 @@ write-next-spec =
     (λ c. search needs)
     returns-2
     (λ c κs. search needs)
-    write-command-requires
     (λ c κs. search needs)
+    write-command-requires
     (λ c. search needs)
     (λ c. search needs)
     (λ c. search needs)

@@ -23,17 +23,17 @@ abbrev μ-loop : tie.MeasureT-loop
 
 loop-again : tie.Need-loop-again Inv-loop μ-loop
 loop-again c =
-    let l = c .before .before .before .before .loop in
-    let a = c .before .before .before .before .before .before .before .before .before .args in
-    let f = c .before .before .before .before .before .before .before .before .before .pre .0 in
+    let l = c .before .before .before .loop in
+    let a = c .before .before .before .before .before .before .before .before .args in
+    let f = c .before .before .before .before .before .before .before .before .pre .0 in
     let row = a .row .now in (
       omega arith,
       simp length-set (omega arith),
       simp length-set (omega arith),
       simp length-set (omega arith),
       over-turn (λ k. k) row (a .count) f _ _ (l .j) _ (omega arith) (omega arith) (l .inv .4) refl,
-      over-turn (numberAt (a .number) (a .bits)) row (a .count) f _ _ (l .j) _ (omega arith) (omega arith) (l .inv .5) (c .before .number-at .ensures),
-      over-turn (placeAt (a .place)) row (a .count) f _ _ (l .j) _ (omega arith) (omega arith) (l .inv .6) (c .place-at .ensures),
+      over-turn (numberAt (a .number) (a .bits)) row (a .count) f _ _ (l .j) _ (omega arith) (omega arith) (l .inv .5) (c .fields-at .ensures .0),
+      over-turn (placeAt (a .place)) row (a .count) f _ _ (l .j) _ (omega arith) (omega arith) (l .inv .6) (c .fields-at .ensures .1),
     )
 
 returns : tie.Need-returns Inv-loop μ-loop
@@ -62,7 +62,6 @@ write-row-spec =
     (λ c κs. search needs)
     (λ c. omega arith)
     (λ c. omega arith)
-    (λ c κs. search needs)
     (λ c. omega arith)
     (λ c. omega arith)
     (λ c. omega arith)
