@@ -74,7 +74,10 @@ fn fields_at(kind: u8, number: u64, bits: u64, place: u32) -> Fields
     ensures { λ r. ⌜ (r .number ≡ numberAt number bits kind) × (r .place ≡ placeAt place kind) ⌝ }
 {
     if BYTES32 < kind {
-        return Fields { number: 0, place: 0 };
+        return Fields {
+            number: 0,
+            place: 0,
+        };
     }
     if kind == NUM {
         return Fields { number, place: 0 };
@@ -88,7 +91,10 @@ fn fields_at(kind: u8, number: u64, bits: u64, place: u32) -> Fields
     if kind == BYTES32 {
         return Fields { number: 0, place };
     }
-    Fields { number: 0, place: 0 }
+    Fields {
+        number: 0,
+        place: 0,
+    }
 }
 
 // The records of the first `count` kinds of a row.
