@@ -1,5 +1,4 @@
 -- Refusal 6, command by command: no command but an index constant has a Num that is not narrow.
-use Prim.Native.Nat.{ℕ}
 use mathlib.Core.Bool.{Bool, true, false, _&&_}
 use mathlib.Core.Path.{_≡_, refl}
 use mathlib.Core.List.{List, [], _∷_}

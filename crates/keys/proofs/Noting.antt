@@ -13,7 +13,7 @@ use Rattle.slices.specs.Bytes.{All}
 use Rattle.slices.proofs.Bytes.{all-join}
 use Rattle.semantics.specs.Code.{commandRow}
 use Rattle.semantics.specs.FromTokens.{sameBytes}
-use Rattle.semantics.specs.Parse.{after, commandAt, fold, instructions, operandsAt}
+use Rattle.semantics.specs.Parse.{commandAt, fold, instructions, operandsAt}
 use Rattle.semantics.specs.Write.{indexOf, withKey}
 use Rattle.semantics.proofs.Machine.{fold-ends, fold-takes, key-at}
 use Rattle.summary.specs.declared.Summary.{Summary}

@@ -1,7 +1,6 @@
 -- What is asked says that the operand bytes are there; the callees answer for the byte.
-use mathlib.Core.Path.{_≡_, refl, sym, ap, _∙_}
+use mathlib.Core.Path.{_≡_, ap, _∙_}
 use borrow.Author.Needs.{needs}
-use native.Mathlib.Omega.{arith}
 use Rattle.semantics.specs.declared.Command.{Command}
 use Rattle.semantics.specs.Code.{commandRow}
 use Rattle.semantics.specs.Parse.{commandAt}

@@ -85,7 +85,7 @@ mark-spec =
     μ-loop
     (λ c.
     let s = c .before .before .before .before in
-    found-unmarked (s .args .code .now) (s .args .marks .now) _ _ (s .pre .0) (c .if1 .taken) (s .pre .1))
+    found-unmarked (s .args .code .now) (s .args .marks .now) _ _ (s .pre .0) (omega (arith, c .if1 .taken)) (s .pre .1))
     (λ c.
     let s = c .before .before .before .before in
     loop-start (s .args .code .now) (s .args .lookups) (s .args .waiting .now) (s .args .marks .now) (s .pre .0))

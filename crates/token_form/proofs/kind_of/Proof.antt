@@ -8,7 +8,7 @@ use lib.Dec.{eqb}
 use Rattle.slices.specs.Bytes.{bytesValue}
 use Rattle.semantics.specs.declared.Command.{Command}
 use Rattle.semantics.specs.Code.{commandOf, commandRow}
-use Rattle.semantics.specs.Operations.{Token, op}
+use Rattle.semantics.specs.Operations.{op}
 use Rattle.token_table.specs.TokenRows.{ownTokens}
 use Rattle.token_form.specs.Fields.{Single}
 use Rattle.token_form.proofs.kind_of.Statement.{statement}

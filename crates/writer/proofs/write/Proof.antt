@@ -2,7 +2,6 @@
 use borrow.Author.Needs.{needs}
 use mathlib.Core.Path.{_≡_, refl, sym, _∙_}
 use Rattle.semantics.specs.Records.{recordsOf}
-use Rattle.summary.specs.declared.Summary.{Summary}
 use Rattle.condition.specs.declared.Examined.{Examined}
 use Rattle.condition.specs.Walk.{examined}
 use Rattle.condition.proofs.Onward.{passed-with, told}

@@ -1,12 +1,11 @@
 -- The arrays have room for as many operands and marks as the condition has tokens, and no mark is set.
 use borrow.Author.Needs.{needs}
 use Prim.Native.Nat.{ℕ, _≤_}
-use mathlib.Core.Bool.{Bool, false}
+use mathlib.Core.Bool.{false}
 use mathlib.Core.Path.{_≡_, sym, ap}
 use mathlib.Core.List.{List}
 use native.Mathlib.Omega.{arith}
 use lib.ListN.{length, replicate, length-replicate}
-use Rattle.semantics.specs.Code.{maxTokens}
 use Rattle.condition.specs.Walk.{Passed}
 use Rattle.condition.proofs.Onward.{passed-as}
 use Rattle.conversions.specs.Marks.{Fits, Unmarked}
