@@ -9,7 +9,7 @@ use native.Mathlib.Omega.{arith}
 use borrow.Author.Tests.{eqb-true, ltb-true, ne-eqb}
 use lib.Dec.{eqb, ltb}
 use lib.ListN.{length, getD, drop, List·getD-map}
-use Rattle.slices.specs.Bytes.{All}
+use Rattle.slices.specs.Bytes.{All, bytesValue}
 use Rattle.semantics.specs.Operations.{Token, op, num, bytes8, bytes32, cmpOps, cmpRow, idxOps}
 use Rattle.semantics.specs.declared.AmountList.{AmountList}
 use Rattle.semantics.specs.declared.BinOp.{BinOp}
@@ -73,7 +73,7 @@ getD-any (a ∷ l) zero d e h = refl
 getD-any (a ∷ l) (suc i) d e h = getD-any l i d e (omega arith)
 
 rows-refit : (ts : List Token) → map (λ (r : Row). refits (λ i. getD ts i (op 0)) (r .marks)) rows ≡ map ending (productions ts)
-unfolding rows ending headForm idxHeadForm exprForm refits
+unfolding rows ending headForm idxHeadForm exprForm refits bytesValue
 rows-refit ts = refl
 
 row-refit : (ts : List Token) (k : ℕ) → k < 29 → refits (λ i. getD ts i (op 0)) (rowAt k .marks) ≡ ending (productionOf ts k)
@@ -115,7 +115,7 @@ abbrev Own : Production → List Token → Type 0
 Own p r = (k : ℕ) × (production (ending p ++ r) ≡ found k r) × (productionOf (ending p ++ r) k ≡ p)
 
 pub production-own : (p : Production) (r : List Token) → Own p r
-unfolding production ending headForm idxHeadForm exprForm rows ends
+unfolding production ending headForm idxHeadForm exprForm rows ends bytesValue
 production-own (Production.value (Head.const n)) r = (0, refl, refl)
 production-own (Production.value (Head.lookup AmountList.Input)) r = (1, refl, refl)
 production-own (Production.value (Head.lookup AmountList.Output)) r = (2, refl, refl)

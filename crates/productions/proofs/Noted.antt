@@ -1,6 +1,6 @@
 -- The rows that are noted: one by one, before an earlier place, and with their own tokens.
-use Prim.Native.Nat.{ℕ, zero, suc, _+_, _-_, _<_, _≤_}
-use mathlib.Core.Bool.{Bool, true, false, cond}
+use Prim.Native.Nat.{ℕ, _+_, _-_, _<_, _≤_}
+use mathlib.Core.Bool.{Bool, true, false}
 use mathlib.Core.Path.{_≡_, refl, sym, ap, _∙_}
 use mathlib.Core.List.{List}
 use native.Mathlib.Omega.{arith}
@@ -8,13 +8,13 @@ use borrow.Author.Tests.{eqb-false, eqb-true, ltb-false, ltb-true}
 use lib.Dec.{eqb, ltb}
 use lib.ListN.{length, set, List·getD-eq-default}
 use lib.Seq.{getD-set-other, getD-set-same}
+use Rattle.slices.specs.Bytes.{bytesValue}
 use Rattle.semantics.specs.Code.{maxTokens}
 use Rattle.semantics.specs.Operations.{Token}
 use Rattle.semantics.specs.Records.{Records, tokenAt}
-use Rattle.semantics.specs.Token.{exprForm}
-use Rattle.semantics.specs.FromTokens.{Found, found, headForm, idxHeadForm, nothing}
+use Rattle.semantics.specs.FromTokens.{Found, found, nothing}
 use Rattle.productions.specs.Before.{before}
-use Rattle.productions.specs.Ending.{Row, blank, ending, ends, production, rowAt, rowFound, rows}
+use Rattle.productions.specs.Ending.{Row, blank, ends, production, rowAt, rowFound, rows}
 use Rattle.productions.specs.Noted.{Fitting, Rows, rowIn}
 use Rattle.productions.proofs.Endings.{production-ends}
 use Rattle.productions.proofs.Places.{At, row-found}
@@ -42,7 +42,7 @@ rows-fit r rs last few p = record { few = few; fitting = λ i l. fit i (rowIn rs
 
 -- rows are noted one by one
 pub rows-none : (r : Records) (rs : List ℕ) → Rows r rs 0
-unfolding before production rows ends ending headForm idxHeadForm exprForm rowIn
+unfolding before production rows ends bytesValue rowIn
 rows-none r rs = record { noted = λ i h. let z : i ≡ 0 = omega arith in rw z refl }
 
 pub rows-more : (r : Records) (rs : List ℕ) (i k : ℕ) → Rows r rs i → i < length rs → k ≡ rowFound (production (before (tokenAt r) (i + 1))) → Rows r (set rs i k) (i + 1)

@@ -1,21 +1,21 @@
 -- The row that the tokens before a place end with, as the code finds it there: mark by mark (`ends-all` ..), and then as a row (`row-found` ..).
 use Prim.Native.Nat.{ℕ, zero, suc, _+_, _-_, _<_, _≤_, zero-le, suc-le-suc}
 use mathlib.Core.Bool.{Bool, true, false, cond, not, _&&_, _||_}
-use mathlib.Core.Path.{_≡_, refl, sym, ap, _∙_, subst⁻¹}
-use mathlib.Core.List.{List, [], _∷_}
+use mathlib.Core.Path.{_≡_, refl, sym, ap, ap₂, _∙_, subst⁻¹}
+use mathlib.Core.List.{List, [], _∷_, reverse-append}
 use native.Mathlib.Numerals.{add-one}
 use native.Mathlib.Omega.{arith}
 use borrow.Author.Tests.{eq-eqb, eqb-false, eqb-true, le-ltb, lt-ltb, ltb-false, ltb-true, ne-eqb}
 use lib.Dec.{eqb, ltb}
-use lib.ListN.{length, getD, drop, drop-of-length-le, List·getD-eq-default}
-use lib.Seq.{drop-cons}
+use lib.ListN.{length, getD, drop, take, List·getD-eq-default}
+use lib.Seq.{take-suc}
+use Rattle.slices.specs.Bytes.{bytesValue}
 use Rattle.semantics.specs.Operations.{Token, op}
-use Rattle.semantics.specs.FromTokens.{Found, found, headForm, idxHeadForm, nothing}
-use Rattle.semantics.specs.Token.{exprForm}
+use Rattle.semantics.specs.FromTokens.{Found, found, nothing}
 use Rattle.semantics.specs.Records.{Records, recordsOf, tokenAt}
 use Rattle.semantics.proofs.Tests.{and-true}
 use Rattle.productions.specs.Before.{Numbered, before, tokensBefore}
-use Rattle.productions.specs.Ending.{Row, blank, candidateOf, ending, ends, fits, kindAt, production, rowAt, rowFound, rows, rowsBefore}
+use Rattle.productions.specs.Ending.{Row, backwards, blank, candidateOf, ends, fits, kindAt, markOf, production, rowAt, rowFound, rows, rowsBefore}
 use Rattle.productions.proofs.Tokens.{before-step, drop-before, getD-before, getD-beyond, length-before}
 use Rattle.productions.proofs.Endings.{production-ends}
 use Rattle.productions.proofs.Table.{all, all-at, widths}
@@ -28,38 +28,44 @@ fits-number m kind number = go (eqb kind 1)
     go true = refl
     go false = refl
 
--- one mark after the other: i of the marks have fitted, and `last` tokens are left of those before `end`
-module _ (ms : List ℕ) (r : Records) (end i n last : ℕ) (size : n ≡ length ms)
-    (so-far : ends ms (before (tokenAt r) end) ≡ ends (drop i ms) (before (tokenAt r) last)) where
-  pub ends-all : n ≤ i → true ≡ ends ms (before (tokenAt r) end)
-  unfolding ends
-  ends-all h = rw (so-far, drop-of-length-le ms {i = i} (rw (← size) h))
-
-  pub ends-short : i < n → last ≡ 0 → false ≡ ends ms (before (tokenAt r) end)
-  unfolding ends before
-  ends-short h e = rw (so-far, e, drop-cons ms i 0 (rw (← size) h))
-
-  -- the next mark is m, and b says whether it fits
-  module _ (h : i < n) (some : last ≡ 0 → ⊥) (m : ℕ) (is : m ≡ getD ms i 0) (b : Bool)
-      (tested : b ≡ fits m (getD (r .kinds) (last - 1) 0) (getD (r .numbers) (last - 1) 0)) where
-    step : ends ms (before (tokenAt r) end) ≡ (b && ends (drop (i + 1) ms) (before (tokenAt r) (last - 1)))
-    unfolding ends
-    step =
-        rw (so-far, drop-cons ms i 0 (rw (← size) h), before-step (tokenAt r) last some, tested, is, add-one i)
-        (ap (λ (x : Bool). x && ends (drop (suc i) ms) (before (tokenAt r) (last - 1))) (fits-number (getD ms i 0) (getD (r .kinds) (last - 1) 0) (getD (r .numbers) (last - 1) 0)))
-
-    pub ends-miss : b ≡ false → false ≡ ends ms (before (tokenAt r) end)
-    ends-miss e = rw (step, e)
-
-    pub ends-more : b ≡ true → ends ms (before (tokenAt r) end) ≡ ends (drop (i + 1) ms) (before (tokenAt r) (last - 1))
-    ends-more e = rw (step, e)
-
 -- marks that fit are no more than the tokens
 pub ends-length : (ms : List ℕ) (ts : List Token) → ends ms ts ≡ true → length ms ≤ length ts
 unfolding ends
 ends-length [] ts e = zero-le
 ends-length (m ∷ ms) [] e = let z : _≡_ {A = ℕ} 0 1 = cc in absurd (omega arith)
 ends-length (m ∷ ms) (t ∷ ts) e = suc-le-suc (ends-length ms ts (and-true (fits m (t .kind) (t .number)) (ends ms ts) e .1))
+
+pub ends-short : (ms : List ℕ) (t : ℕ → Token) (end : ℕ) → end < length ms → false ≡ ends ms (before t end)
+ends-short ms t end h = go (ends ms (before t end)) refl
+  where
+    go : (b : Bool) → ends ms (before t end) ≡ b → false ≡ b
+    go true e = absurd (omega (arith, ends-length ms (before t end) e, length-before t end))
+    go false e = refl
+
+-- one kind after the other, the last one first: all but the first i of a command's kinds have fitted
+backwards-step : (own : List ℕ) (i : ℕ) → i < length own → backwards own (i + 1) ≡ markOf (getD own i 0) ∷ backwards own i
+backwards-step own i h = rw (add-one i, take-suc own i 0 h, reverse-append (take i own) (getD own i 0 ∷ []))
+
+module _ (ms : List ℕ) (r : Records) (end : ℕ) (own : List ℕ) (start i : ℕ) (so-far : ends ms (before (tokenAt r) end) ≡ ends (backwards own i) (before (tokenAt r) (start + i))) where
+  pub ends-all : i ≤ 0 → true ≡ ends ms (before (tokenAt r) end)
+  unfolding ends
+  ends-all h = let none : i ≡ 0 = omega arith in rw (so-far, none)
+
+  -- b says whether the next one fits
+  module _ (some : 0 < i) (there : i ≤ length own) (b : Bool) (tested : b ≡ fits (markOf (getD own (i - 1) 0)) (getD (r .kinds) (start + (i - 1)) 0) (getD (r .numbers) (start + (i - 1)) 0)) where
+    step : ends ms (before (tokenAt r) end) ≡ (b && ends (backwards own (i - 1)) (before (tokenAt r) (start + (i - 1))))
+    unfolding ends
+    step =
+        let back : i ≡ i - 1 + 1 = omega arith in
+        let last : start + i - 1 ≡ start + (i - 1) = omega arith in
+        so-far ∙ ap₂ ends (ap (backwards own) back ∙ backwards-step own (i - 1) (omega arith)) (before-step (tokenAt r) (start + i) (λ e. omega arith) ∙ ap (λ (n : ℕ). tokenAt r n ∷ before (tokenAt r) n) last)
+        ∙ rw tested (ap (λ (x : Bool). x && ends (backwards own (i - 1)) (before (tokenAt r) (start + (i - 1)))) (fits-number (markOf (getD own (i - 1) 0)) (getD (r .kinds) (start + (i - 1)) 0) (getD (r .numbers) (start + (i - 1)) 0)))
+
+    pub ends-miss : b ≡ false → false ≡ ends ms (before (tokenAt r) end)
+    ends-miss e = rw (step, e)
+
+    pub ends-more : b ≡ true → ends ms (before (tokenAt r) end) ≡ ends (backwards own (i - 1)) (before (tokenAt r) (start + (i - 1)))
+    ends-more e = rw (step, e)
 
 -- the candidate, by the tests on the last kind and another one
 pub neither : (a b c d : ℕ) → (a ≡ b → c ≡ d → ⊥) → (eqb a b && eqb c d) ≡ false
@@ -121,7 +127,7 @@ beyond-one ms e = List·getD-eq-default ms 99 {n = 3} (omega arith)
 module _ (ts : List Token) (k : ℕ) (is : k ≡ candidateOf ts) (row : k < 29) (single : length (rowAt k .marks) ≡ 1)
     (last : kindAt ts 0 < 36) (fourth : kindAt ts 3 < 36) where
   single-ends : ends (rowAt k .marks) ts ≡ true
-  unfolding rows ending headForm idxHeadForm exprForm
+  unfolding rows bytesValue
   single-ends =
       go (eqb (kindAt ts 0) 15) (eqb (kindAt ts 0) 8 && eqb (kindAt ts 1) 16) (eqb (kindAt ts 0) 16 && eqb (kindAt ts 1) 15) is
     where
@@ -152,7 +158,7 @@ four-marks (m ∷ m₁ ∷ m₂ ∷ m₃ ∷ []) (t ∷ t₁ ∷ t₂ ∷ t₃ �
     rw (a, b, c, e, ne-eqb m₃ 36 (λ q. omega arith), eq-eqb (t₃ .kind) m₃ (sym d))
 
 checked-row : (k : ℕ) → k < 29 → length (rowAt k .marks) ≡ 4 → (getD (rowAt k .marks) 0 99 ≡ 15) × (getD (rowAt k .marks) 1 99 ≡ 14) × (getD (rowAt k .marks) 2 99 ≡ 36)
-unfolding rows all ending headForm idxHeadForm exprForm
+unfolding rows all bytesValue
 checked-row k h four =
     let f : Row → Bool = λ r. not (eqb (length (r .marks)) 4) || (eqb (getD (r .marks) 0 99) 15 && (eqb (getD (r .marks) 1 99) 14 && eqb (getD (r .marks) 2 99) 36)) in
     let test = rw (eq-eqb (length (rowAt k .marks)) 4 four) at (all-at f rows blank refl k h) in
@@ -162,7 +168,7 @@ checked-row k h four =
 
 module _ (ts : List Token) (k : ℕ) (is : k ≡ candidateOf ts) (row : k < 29) (four : length (rowAt k .marks) ≡ 4) (fourth : kindAt ts 3 < 36) where
   four-end : ends (rowAt k .marks) ts ≡ ends (14 ∷ 36 ∷ []) (drop 1 ts)
-  unfolding rows ending headForm idxHeadForm exprForm
+  unfolding rows bytesValue
   four-end =
       go (eqb (kindAt ts 0) 15) refl (eqb (kindAt ts 0) 8 && eqb (kindAt ts 1) 16) (eqb (kindAt ts 0) 16 && eqb (kindAt ts 1) 15) is
     where

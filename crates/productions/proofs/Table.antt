@@ -1,20 +1,22 @@
 -- The code's table is that of the definitions' rows, entry for entry; each is one computed test.
 use Prim.Native.Nat.{ℕ, zero, suc, _+_, _-_, _<_, _≤_}
-use mathlib.Core.Bool.{Bool, true, false, _&&_}
+use mathlib.Core.Bool.{Bool, true, false, not, _&&_, _||_}
 use mathlib.Core.Path.{_≡_, refl, sym, ap, _∙_}
 use mathlib.Core.List.{List, [], _∷_, map}
 use native.Mathlib.Nat.{add-suc, add-zero, suc-add}
-use native.Mathlib.Numerals.{add-two}
 use native.Mathlib.Omega.{arith}
-use borrow.Author.Tests.{leb-true, ltb-false, ltb-true, ne-eqb}
+use borrow.Author.Tests.{eqb-true, leb-true, lt-ltb, ltb-false, ltb-true, ne-eqb}
 use lib.Dec.{eqb, leb, ltb}
-use lib.ListN.{length, getD, take, drop, getD-replicate, replicate, List·getD-append, List·getD-eq-default, List·getD-map}
+use lib.ListN.{length, getD, take, drop, getD-replicate, replicate, List·getD-eq-default, List·getD-map}
 use lib.Seq.{getD-drop, getD-take}
 use Rattle.semantics.specs.Operations.{Token}
-use Rattle.semantics.specs.Token.{exprForm}
-use Rattle.semantics.specs.FromTokens.{headForm, idxHeadForm}
+use Rattle.semantics.specs.FromTokens.{sameBytes}
+use Rattle.semantics.proofs.Find.{sameBytes-true}
 use Rattle.semantics.proofs.Tests.{and-true}
-use Rattle.productions.specs.Ending.{Production, Row, blank, ending, entry, productionOf, productions, rowAt, rows, rowsBefore}
+use Rattle.slices.specs.Bytes.{bytesValue}
+use Rattle.token_table.specs.TokenRows.{tokenRow}
+use Rattle.token_table.specs.declared.TokenRow.{TokenRow}
+use Rattle.productions.specs.Ending.{Production, Row, backwards, blank, productionOf, productions, rowAt, rows, rowsBefore}
 use Rattle.productions.proofs.Shapes.{IndexShape, ValueShape, indexShape, valueShape}
 use Rattle.productions.proofs.Endings.{isComparison}
 
@@ -31,15 +33,46 @@ all-at f (a ∷ l) d e (suc k) h = all-at f l d (and-true (f a) (all f l) e .1) 
 
 -- a row has one to thirteen marks
 pub widths : (k : ℕ) → k < 29 → (1 ≤ length (rowAt k .marks)) × (length (rowAt k .marks) ≤ 13)
-unfolding rows all ending headForm idxHeadForm exprForm
+unfolding rows all bytesValue
 widths k h =
     let f : Row → Bool = λ r. leb 1 (length (r .marks)) && leb (length (r .marks)) 13 in
     let e = and-true (leb 1 (length (rowAt k .marks))) (leb (length (rowAt k .marks)) 13) (all-at f rows blank refl k h) in
     (leb-true 1 (length (rowAt k .marks)) (e .0), leb-true (length (rowAt k .marks)) 13 (e .1))
 
--- a mark of an entry
-pub mark-is : (r : Row) (i : ℕ) → i < length (r .marks) → getD (entry r) (i + 2) 0 ≡ getD (r .marks) i 0
-mark-is r i m = rw (add-two i) (List·getD-append (r .marks) (replicate (13 - length (r .marks)) 0) 0 i m)
+-- a row of several tokens has the marks of its command's kinds, read backwards; no kind is the mark of a Num of 1
+pub record OwnKinds (k : ℕ) (own : TokenRow) : Type 0 where
+  pub marks : rowAt k .marks ≡ backwards (own .kinds) (own .count)
+  pub count : length (rowAt k .marks) ≡ own .count
+  pub room : own .count ≤ 14
+  pub whole : length (own .kinds) ≡ 14
+  pub low : (i : ℕ) → getD (own .kinds) i 0 < 36
+
+low-at : (l : List ℕ) → all (λ k. ltb k 36) l ≡ true → (i : ℕ) → getD l i 0 < 36
+unfolding all
+low-at [] e i = omega arith
+low-at (k ∷ l) e zero = ltb-true k 36 (and-true (ltb k 36) (all (λ k. ltb k 36) l) e .0)
+low-at (k ∷ l) e (suc i) = low-at l (and-true (ltb k 36) (all (λ k. ltb k 36) l) e .1) i
+
+pub own-kinds : (k : ℕ) → k < 29 → 1 < length (rowAt k .marks) → OwnKinds k (tokenRow (rowAt k .command))
+unfolding rows all bytesValue
+own-kinds k h wide =
+    let own : TokenRow = tokenRow (rowAt k .command) in
+    let ms : List ℕ = rowAt k .marks in
+    let f : Row → Bool = λ r.
+        not (ltb 1 (length (r .marks))) || (sameBytes (r .marks) (backwards (tokenRow (r .command) .kinds) (tokenRow (r .command) .count)) && (eqb (length (r .marks)) (tokenRow (r .command) .count)
+        && (eqb (length (tokenRow (r .command) .kinds)) 14 && all (λ k. ltb k 36) (tokenRow (r .command) .kinds)))) in
+    let test = rw (lt-ltb 1 (length ms) wide) at (all-at f rows blank refl k h) in
+    let a = and-true (sameBytes ms (backwards (own .kinds) (own .count))) _ test in
+    let b = and-true (eqb (length ms) (own .count)) _ (a .1) in
+    let c = and-true (eqb (length (own .kinds)) 14) _ (b .1) in
+    let same : length ms ≡ own .count = eqb-true (length ms) (own .count) (b .0) in
+    record {
+      marks = sameBytes-true ms (backwards (own .kinds) (own .count)) (a .0);
+      count = same;
+      room = omega (arith, widths k h .1);
+      whole = eqb-true (length (own .kinds)) 14 (c .0);
+      low = low-at (own .kinds) (c .1);
+    }
 
 -- the last row, if it is none of the others
 pub beyond : (n k : ℕ) → n ≤ k → (k ≡ n → ⊥) → suc n ≤ k

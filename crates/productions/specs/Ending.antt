@@ -1,16 +1,18 @@
 -- What tokens can end with: the own tokens of a value or index expression, what stands between two index operands, or a comparison. Each has a
--- row: its command, and the marks of its own tokens, the last one first. The rows are made of the definitions' forms.
-use Prim.Native.Nat.{ℕ, suc, _-_}
+-- row: its command, and the marks of its own tokens, the last one first. The rows are made of the commands' own tokens.
+use Prim.Native.Nat.{ℕ, suc}
 use mathlib.Core.Bool.{Bool, true, false, _&&_, cond}
 use mathlib.Core.List.{List, [], _∷_, _++_, map, reverse}
-use lib.ListN.{length, getD, drop, replicate}
+use lib.ListN.{length, getD, drop, take}
 use lib.Dec.{eqb, ltb}
-use Rattle.semantics.specs.Operations.{Token, op, idxRow, listRow, binRow, unRow, cmpRow, idxOps, cmpOps}
+use Rattle.semantics.specs.Operations.{Token, op, idxRow, listRow, binRow, unRow, cmpRow, amountLists, binOps, cmpOps, idxOps, unOps}
 use Rattle.semantics.specs.Trees.{IdxExpr, Expr}
+use Rattle.semantics.specs.declared.Command.{Command}
 use Rattle.semantics.specs.declared.IdxOp.{IdxOp}
 use Rattle.semantics.specs.declared.CmpOp.{CmpOp}
 use Rattle.semantics.specs.Code.{idxCode, exprCode}
 use Rattle.semantics.specs.FromTokens.{Found, Head, IdxHead, found, headForm, heads, idxHeadForm, nothing, numberAt}
+use Rattle.token_table.specs.TokenRows.{ownTokens}
 
 pub data Production : Type 0 where
   value : Head → Production
@@ -72,18 +74,27 @@ abbrev pub mark : Token → ℕ
 mark t = cond (eqb (t .kind) 1 && eqb (t .number) 1) numOne (t .kind)
 
 pub record Row : Type 0 where
-  pub command : ℕ
+  pub command : Command
   pub marks : List ℕ
 
-abbrev pub rowOf : Production → Row
-rowOf p = record { command = getD (ownCode p) 0 0; marks = map mark (ending p) }
+-- a command's row, of its own tokens; a constant, a time and a key may be any
+abbrev pub rowOf : Command → Row
+rowOf c = record { command = c; marks = map mark (reverse (ownTokens c [])) }
+
+-- what stands between the operands of index mul and div is no command's
+abbrev pub betweenRow : Row
+betweenRow = record { command = Command.Unknown; marks = map mark (reverse (idxRow IdxOp.Mul .between)) }
 
 abbrev pub blank : Row
-blank = record { command = 0; marks = [] }
+blank = record { command = Command.Unknown; marks = [] }
 
--- the rows, in the order of the productions; a constant, a time and a key may be any
+-- the rows, in the order of the productions
 unfoldable pub rows : List Row
-rows = map rowOf (productions [])
+rows =
+    map rowOf
+    (Command.Const ∷ map Command.Lookup amountLists ++ map Command.Unary unOps ++ map Command.Binary binOps ++ Command.PriceOracle1 ∷ Command.PriceOracle1W
+    ∷ Command.IdxConst ∷ Command.CurrIdx ∷ map Command.Index idxOps)
+    ++ betweenRow ∷ map (λ o. rowOf (Command.Compare o)) cmpOps
 
 abbrev pub rowCount : ℕ
 rowCount = 29
@@ -101,9 +112,12 @@ indexDivRow = 22
 abbrev pub rowAt : ℕ → Row
 rowAt k = getD rows k blank
 
--- a row as the code has it: the command, the number of marks, the marks, and zeros
-abbrev pub entry : Row → List ℕ
-entry r = r .command ∷ length (r .marks) ∷ (r .marks ++ replicate (13 - length (r .marks)) 0)
+-- the marks of the first n of a command's kinds, the last one first, in a row of several tokens: a Num there is one of 1
+abbrev pub markOf : ℕ → ℕ
+markOf kind = cond (eqb kind 1) numOne kind
+
+abbrev pub backwards : List ℕ → ℕ → List ℕ
+backwards kinds n = map markOf (reverse (take n kinds))
 
 -- whether a token has a mark
 abbrev pub fits : ℕ → ℕ → ℕ → Bool

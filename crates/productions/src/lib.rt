@@ -1,5 +1,12 @@
-// What the tokens before a place end with: a row of the table, told by the kinds of one or two tokens, and then compared mark by mark.
+// What the tokens before a place end with: a row, told by the kinds of one or two tokens, and then compared kind by kind with its command's own tokens.
+use semantics::AmountList;
+use semantics::BinOp;
+use semantics::CmpOp;
+use semantics::Command;
+use semantics::IdxOp;
 use semantics::MAX_TOKENS;
+use semantics::UnOp;
+use token_table::token_row;
 ghost use mathlib.Core.Path.{_≡_};
 ghost use mathlib.Core.List.{List, [], _∷_};
 ghost use Prim.Native.Nat.{ℕ, _-_, _≤_, _<_};
@@ -8,7 +15,7 @@ ghost use Rattle.semantics.specs.Code.{maxTokens};
 ghost use Rattle.semantics.specs.Records.{recordsOf};
 ghost use Rattle.productions.specs.Before.{Numbered, tokensBefore};
 ghost use Rattle.productions.specs.Noted.{Rows, rowIn};
-ghost use Rattle.productions.specs.Ending.{candidateOf, ends, entry, equalKind, fits, kindAt, numOne, production, rowAt, rowCount, rowFound, rows, rowsBefore, valueCount};
+ghost use Rattle.productions.specs.Ending.{candidateOf, ends, equalKind, fits, kindAt, markOf, numOne, production, rowAt, rowCount, rowFound, rows, rowsBefore, valueCount};
 
 // Kinds of tokens.
 const NUM: u8 = 1;
@@ -20,9 +27,6 @@ const EQUAL: u8 = 14;
 const VERIFY: u8 = 15;
 
 const NIP: u8 = 16;
-
-// The mark of a Num of 1; every other mark is a kind.
-const NUM_ONE: u8 = 36;
 
 // The rows stand in runs: a constant, lookups, operations on one value, on two, oracle terminals; index terminals, index operations; what stands between
 // the operands of index mul and div; comparisons. A run is named by its first row, and some rows have names of their own; the number of rows is no row's.
@@ -60,58 +64,49 @@ pub const COMPARISONS: usize = 24;
 
 pub const ROWS: usize = 29;
 
-// A row's command, the number of its own tokens, and their marks, the last token first.
-fn entry(row: usize) -> [u8; 15]
-    requires { ⌜ row < rowCount ⌝ }
-    ensures { λ r. ⌜ r ≡ entry (rowAt row) ⌝ }
-{
-    match row {
-        0 => [16, 1, 2, 0, 0, 0, 0, 0, 0, 0, 0, 0, 0, 0, 0], // Const
-        1 => [18, 4, 15, 14, 36, 22, 0, 0, 0, 0, 0, 0, 0, 0, 0], // Input
-        2 => [19, 4, 15, 14, 36, 23, 0, 0, 0, 0, 0, 0, 0, 0, 0], // Output
-        3 => [20, 8, 16, 16, 15, 14, 36, 17, 17, 24, 0, 0, 0, 0, 0], // InputIssue
-        4 => [21, 8, 15, 14, 36, 17, 17, 17, 17, 24, 0, 0, 0, 0, 0], // InputReIssue
-        5 => [30, 1, 21, 0, 0, 0, 0, 0, 0, 0, 0, 0, 0, 0, 0], // Invert
-        6 => [31, 4, 15, 14, 36, 13, 0, 0, 0, 0, 0, 0, 0, 0, 0], // Negate
-        7 => [22, 4, 15, 14, 36, 11, 0, 0, 0, 0, 0, 0, 0, 0, 0], // Add
-        8 => [23, 4, 15, 14, 36, 12, 0, 0, 0, 0, 0, 0, 0, 0, 0], // Sub
-        9 => [24, 4, 15, 14, 36, 9, 0, 0, 0, 0, 0, 0, 0, 0, 0], // Mul
-        10 => [25, 5, 16, 15, 14, 36, 10, 0, 0, 0, 0, 0, 0, 0, 0], // Div
-        11 => [26, 5, 17, 15, 14, 36, 10, 0, 0, 0, 0, 0, 0, 0, 0], // Mod
-        12 => [27, 1, 18, 0, 0, 0, 0, 0, 0, 0, 0, 0, 0, 0, 0], // BitAnd
-        13 => [28, 1, 19, 0, 0, 0, 0, 0, 0, 0, 0, 0, 0, 0, 0], // BitOr
-        14 => [29, 1, 20, 0, 0, 0, 0, 0, 0, 0, 0, 0, 0, 0, 0], // Xor
-        15 => [32, 10, 27, 34, 3, 33, 32, 15, 28, 2, 26, 25, 0, 0, 0], // PriceOracle1
-        16 => [33, 13, 35, 27, 27, 34, 3, 33, 32, 15, 28, 2, 26, 25, 26], // PriceOracle1W
-        17 => [1, 1, 1, 0, 0, 0, 0, 0, 0, 0, 0, 0, 0, 0, 0], // index constant
-        18 => [2, 1, 4, 0, 0, 0, 0, 0, 0, 0, 0, 0, 0, 0, 0], // current index
-        19 => [3, 1, 5, 0, 0, 0, 0, 0, 0, 0, 0, 0, 0, 0, 0], // index add
-        20 => [4, 1, 6, 0, 0, 0, 0, 0, 0, 0, 0, 0, 0, 0, 0], // index sub
-        21 => [5, 6, 8, 15, 14, 36, 9, 7, 0, 0, 0, 0, 0, 0, 0], // index mul
-        22 => [6, 7, 8, 16, 15, 14, 36, 10, 7, 0, 0, 0, 0, 0, 0], // index div
-        23 => [0, 1, 7, 0, 0, 0, 0, 0, 0, 0, 0, 0, 0, 0, 0], // between the operands of index mul and div
-        24 => [48, 1, 14, 0, 0, 0, 0, 0, 0, 0, 0, 0, 0, 0, 0], // Eq
-        25 => [49, 1, 31, 0, 0, 0, 0, 0, 0, 0, 0, 0, 0, 0, 0], // Lt
-        26 => [50, 1, 30, 0, 0, 0, 0, 0, 0, 0, 0, 0, 0, 0, 0], // Leq
-        27 => [51, 1, 29, 0, 0, 0, 0, 0, 0, 0, 0, 0, 0, 0, 0], // Gt
-        _ => [52, 1, 28, 0, 0, 0, 0, 0, 0, 0, 0, 0, 0, 0, 0], // Geq
-    }
-}
-
-// A number of the table, or a row that is noted.
+// A row that is noted.
 fn u8_to_usize(x: u8) -> usize
     ensures { λ r. ⌜ r ≡ x ⌝ }
 {
     x as usize
 }
 
-// A row's command; 0 for what stands between two index operands.
-pub fn command(row: usize) -> u8
+// A row's command; `Command::Unknown` for what stands between two index operands.
+pub fn command(row: usize) -> Command
     requires { ⌜ row < rowCount ⌝ }
     ensures { λ r. ⌜ r ≡ rowAt row .command ⌝ }
 {
-    let e = entry(row);
-    e[0]
+    match row {
+        0 => Command::Const,
+        1 => Command::Lookup(AmountList::Input),
+        2 => Command::Lookup(AmountList::Output),
+        3 => Command::Lookup(AmountList::InputIssue),
+        4 => Command::Lookup(AmountList::InputReIssue),
+        5 => Command::Unary(UnOp::Invert),
+        6 => Command::Unary(UnOp::Negate),
+        7 => Command::Binary(BinOp::Add),
+        8 => Command::Binary(BinOp::Sub),
+        9 => Command::Binary(BinOp::Mul),
+        10 => Command::Binary(BinOp::Div),
+        11 => Command::Binary(BinOp::Mod),
+        12 => Command::Binary(BinOp::BitAnd),
+        13 => Command::Binary(BinOp::BitOr),
+        14 => Command::Binary(BinOp::Xor),
+        15 => Command::PriceOracle1,
+        16 => Command::PriceOracle1W,
+        17 => Command::IdxConst,
+        18 => Command::CurrIdx,
+        19 => Command::Index(IdxOp::Add),
+        20 => Command::Index(IdxOp::Sub),
+        21 => Command::Index(IdxOp::Mul),
+        22 => Command::Index(IdxOp::Div),
+        23 => Command::Unknown,
+        24 => Command::Compare(CmpOp::Eq),
+        25 => Command::Compare(CmpOp::Lt),
+        26 => Command::Compare(CmpOp::Leq),
+        27 => Command::Compare(CmpOp::Gt),
+        _ => Command::Compare(CmpOp::Geq),
+    }
 }
 
 // The number of a row's own tokens, of the rows of values.
@@ -247,39 +242,39 @@ fn candidate(kinds: &[u8], end: usize) -> usize
     by_last(last)
 }
 
-// Whether a token has a mark of the table.
-fn fits(mark: u8, kind: u8, number: u64) -> bool
-    ensures { λ r. ⌜ r ≡ fits mark kind number ⌝ }
+// Whether a token is one of a row of several: of the row's kind there, and a Num is one of 1.
+fn fits(own: u8, kind: u8, number: u64) -> bool
+    requires { ⌜ own < 36 ⌝ }
+    ensures { λ r. ⌜ r ≡ fits (markOf own) kind number ⌝ }
 {
-    if mark == NUM_ONE {
+    if own == NUM {
         if kind == NUM {
             return number == 1;
         }
         return false;
     }
-    kind == mark
+    kind == own
 }
 
-// Whether the tokens before `end` end with the marks of a row.
+// Whether the tokens before `end` end with those of a row of several, the last one looked at first.
 fn ends(kinds: &[u8], numbers: &[u64], end: usize, row: usize) -> bool
     requires { ⌜ (length (now kinds) ≤ length (now numbers)) × (end ≤ length (now kinds)) ⌝ }
-    requires { ⌜ row < rowCount ⌝ }
+    requires { ⌜ (row < rowCount) × (1 < length (rowAt row .marks)) ⌝ }
     ensures { λ r. ⌜ ((places keys : List ℕ) →
         r ≡ ends (rowAt row .marks) (tokensBefore (now (kinds .entry)) (now (numbers .entry)) places keys end)) ⌝ }
 {
-    let e = entry(row);
-    let n = u8_to_usize(e[1]);
-    let mut last = end;
-    let mut i = 0;
-    while i < n {
-        if last == 0 {
+    let tokens = token_row(command(row));
+    let own = tokens.kinds;
+    let mut i = tokens.count;
+    if end < i {
+        return false;
+    }
+    let start = end - i;
+    while 0 < i {
+        i -= 1;
+        if !fits(own[i], kinds[start + i], numbers[start + i]) {
             return false;
         }
-        last -= 1;
-        if !fits(e[i + 2], kinds[last], numbers[last]) {
-            return false;
-        }
-        i += 1;
     }
     true
 }
@@ -296,7 +291,7 @@ fn ends_with_one_equal(kinds: &[u8], numbers: &[u64], end: usize) -> bool
     if kinds[end - 2] != EQUAL {
         return false;
     }
-    fits(NUM_ONE, kinds[end - 3], numbers[end - 3])
+    fits(NUM, kinds[end - 3], numbers[end - 3])
 }
 
 // The row that the tokens before `end` end with, or the number of rows. The kind of the last one tells a row of one token; rows of four tokens differ in the

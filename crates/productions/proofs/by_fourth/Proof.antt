@@ -1,9 +1,8 @@
 -- In each arm the kind is known, and `rowsBefore` computes; in the last one no row has it.
 use Prim.Native.Nat.{_≤_}
 use native.Mathlib.Omega.{arith}
-use Rattle.semantics.specs.FromTokens.{headForm, idxHeadForm}
-use Rattle.semantics.specs.Token.{exprForm}
-use Rattle.productions.specs.Ending.{ending, rows}
+use Rattle.slices.specs.Bytes.{bytesValue}
+use Rattle.productions.specs.Ending.{rows}
 use Rattle.productions.proofs.Table.{found-at, no-kind, not-it}
 use Rattle.productions.proofs.by_fourth.Statement.{statement}
 use Rattle.productions.proofs.by_fourth.Tie as tie
@@ -15,7 +14,7 @@ above-36 : 36 ≤ 36
 above-36 = omega arith
 
 pub by-fourth-spec : {M : Type 1} → statement M
-unfolding rows ending headForm idxHeadForm exprForm
+unfolding rows bytesValue
 by-fourth-spec =
     tie.close
     (tie.spec

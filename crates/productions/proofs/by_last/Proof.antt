@@ -1,13 +1,12 @@
 -- In each arm the kind is known, and `rowsBefore` computes; in the last one no row has it.
-use Rattle.semantics.specs.FromTokens.{headForm, idxHeadForm}
-use Rattle.semantics.specs.Token.{exprForm}
-use Rattle.productions.specs.Ending.{ending, rows}
+use Rattle.slices.specs.Bytes.{bytesValue}
+use Rattle.productions.specs.Ending.{rows}
 use Rattle.productions.proofs.Table.{found-at, not-it}
 use Rattle.productions.proofs.by_last.Statement.{statement}
 use Rattle.productions.proofs.by_last.Tie as tie
 
 pub by-last-spec : {M : Type 1} → statement M
-unfolding rows ending headForm idxHeadForm exprForm
+unfolding rows bytesValue
 by-last-spec =
     tie.close
     (tie.spec

@@ -3,11 +3,13 @@ use borrow.Author.Needs.{needs}
 use Prim.Native.Nat.{ℕ, _<_}
 use mathlib.Core.Path.{_≡_, sym, _∙_}
 use mathlib.Core.List.{List}
+use native.Mathlib.Omega.{arith}
 use Rattle.semantics.specs.Operations.{Token}
 use Rattle.semantics.specs.Records.{recordsOf, tokenAt}
 use Rattle.productions.specs.Before.{before}
 use Rattle.productions.specs.Ending.{candidateOf, kindAt}
 use Rattle.productions.proofs.Places.{four-no, known-kind, no-fit, no-row, row-fits, row-four, row-single}
+use Rattle.productions.proofs.Table.{widths}
 use Rattle.productions.proofs.production.Statement.{statement}
 use Rattle.productions.proofs.production.Tie as tie
 
@@ -47,7 +49,14 @@ returns-4 c places keys =
     four-no (token a places keys) (begin a .args .end) _ (candidate-is a places keys) (c .before .before .before .before .before .if1 .left) (known a places keys 3) _ (c .before .before .before .before .width .ensures) (c .before .before .if3 .taken)
     (c .before .ends-with-one-equal .result) (c .before .ends-with-one-equal .ensures places keys) (c .if4 .left)
 
--- others, mark by mark
+-- others, kind by kind; a row of one token does not come here
+several : tie.Need-ends-requires
+several c κs =
+    let a = c .before .before .before .before in
+    let s = begin a in
+    let low = c .before .before .before .if1 .left in
+    ((s .pre .paired, s .pre .within), (low, omega (arith, widths _ low .0, c .before .before .width .ensures, c .before .if2 .left)))
+
 returns-5 : tie.Need-returns-5
 returns-5 c places keys =
     let a = c .before .before .before .before .before .before in
@@ -71,6 +80,6 @@ production-spec =
     (λ c κs. search needs)
     returns-3
     returns-4
-    (λ c κs. search needs)
+    several
     returns-5
     returns-6)
