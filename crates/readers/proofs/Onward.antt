@@ -5,11 +5,11 @@ use mathlib.Core.Path.{_≡_, refl, sym, ap, _∙_}
 use mathlib.Core.List.{List, [], _∷_, _++_, reverse}
 use native.Mathlib.Omega.{arith}
 use native.Mathlib.Numerals.{add-one}
+use Rattle.slices.specs.Bytes.{bytesValue}
 use Rattle.semantics.specs.Operations.{Token, idxRow}
 use Rattle.semantics.specs.declared.IdxOp.{IdxOp}
 use Rattle.semantics.specs.Records.{Records, tokenAt}
-use Rattle.semantics.specs.Token.{exprForm}
-use Rattle.semantics.specs.FromTokens.{Found, exprFromTokens, found, fromTokens, headForm, idxBetween, idxFromTokens, idxHeadForm, nothing}
+use Rattle.semantics.specs.FromTokens.{Found, exprFromTokens, found, fromTokens, idxBetween, idxFromTokens, nothing}
 use Rattle.semantics.proofs.Find.{Reads, find-sound}
 use Rattle.productions.specs.Before.{before}
 use Rattle.productions.specs.Ending.{Production, ending, ends, production, productionOf, rowFound, rows}
@@ -47,7 +47,7 @@ unfolding ending
 between-is ts f = refl
 
 between-own : (r : List Token) → rowFound (production (ending Production.between ++ r)) ≡ 23
-unfolding production ending headForm idxHeadForm exprForm rows ends
+unfolding production ending rows ends bytesValue
 between-own r = refl
 
 between-not : (ts : List Token) (k : ℕ) → k ≡ rowFound (production ts) → (k ≡ 23 → ⊥) → (f : List Token → Reading) → goOn (idxBetween IdxOp.Mul ts) f ≡ Reading.Nothing

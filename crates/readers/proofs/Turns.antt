@@ -4,12 +4,11 @@ use mathlib.Core.Path.{_≡_, refl, sym, ap, _∙_}
 use mathlib.Core.List.{List}
 use native.Mathlib.Omega.{arith}
 use lib.ListN.{length}
+use Rattle.slices.specs.Bytes.{bytesValue}
 use Rattle.semantics.specs.Operations.{Token}
 use Rattle.semantics.specs.Records.{Records, tokenAt}
-use Rattle.semantics.specs.Token.{exprForm}
-use Rattle.semantics.specs.FromTokens.{headForm, idxHeadForm}
 use Rattle.productions.specs.Before.{before}
-use Rattle.productions.specs.Ending.{ending, rowAt, rows}
+use Rattle.productions.specs.Ending.{rowAt, rows}
 use Rattle.productions.proofs.Places.{At}
 use Rattle.productions.proofs.Tokens.{length-before}
 use Rattle.readers.specs.declared.Reading.{Reading}
@@ -20,7 +19,7 @@ use Rattle.readers.proofs.Steps.{stop}
 
 -- what stands between two index operands has one token
 between-width : length (rowAt 23 .marks) ≡ 1
-unfolding rows ending headForm idxHeadForm exprForm
+unfolding rows bytesValue
 between-width = refl
 
 module _ (rs : List ℕ) (last middle k : ℕ) (fits : Fitting rs last) (low : middle ≤ last) (row : k ≡ rowIn rs middle) (is : k ≡ 23) where
