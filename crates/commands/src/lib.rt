@@ -86,6 +86,84 @@ pub fn width_of(command: Command) -> usize
     }
 }
 
+fn index_byte(op: IdxOp) -> u8
+    ensures { λ r. ⌜ r ≡ commandRow (Command.Index op) .byte ⌝ }
+{
+    match op {
+        IdxOp::Add => 3,
+        IdxOp::Sub => 4,
+        IdxOp::Mul => 5,
+        IdxOp::Div => 6,
+    }
+}
+
+fn lookup_byte(list: AmountList) -> u8
+    ensures { λ r. ⌜ r ≡ commandRow (Command.Lookup list) .byte ⌝ }
+{
+    match list {
+        AmountList::Input => 18,
+        AmountList::Output => 19,
+        AmountList::InputIssue => 20,
+        AmountList::InputReIssue => 21,
+    }
+}
+
+fn binary_byte(op: BinOp) -> u8
+    ensures { λ r. ⌜ r ≡ commandRow (Command.Binary op) .byte ⌝ }
+{
+    match op {
+        BinOp::Add => 22,
+        BinOp::Sub => 23,
+        BinOp::Mul => 24,
+        BinOp::Div => 25,
+        BinOp::Mod => 26,
+        BinOp::BitAnd => 27,
+        BinOp::BitOr => 28,
+        BinOp::Xor => 29,
+    }
+}
+
+fn unary_byte(op: UnOp) -> u8
+    ensures { λ r. ⌜ r ≡ commandRow (Command.Unary op) .byte ⌝ }
+{
+    match op {
+        UnOp::Invert => 30,
+        UnOp::Negate => 31,
+    }
+}
+
+fn compare_byte(op: CmpOp) -> u8
+    ensures { λ r. ⌜ r ≡ commandRow (Command.Compare op) .byte ⌝ }
+{
+    match op {
+        CmpOp::Eq => 48,
+        CmpOp::Lt => 49,
+        CmpOp::Leq => 50,
+        CmpOp::Gt => 51,
+        CmpOp::Geq => 52,
+    }
+}
+
+// The byte of a command.
+pub fn byte_of(command: Command) -> u8
+    ensures { λ r. ⌜ r ≡ commandRow command .byte ⌝ }
+{
+    match command {
+        Command::Unknown => 0,
+        Command::IdxConst => 1,
+        Command::CurrIdx => 2,
+        Command::Index(op) => index_byte(op),
+        Command::Const => 16,
+        Command::CurrInputIdx => 17,
+        Command::Lookup(list) => lookup_byte(list),
+        Command::Binary(op) => binary_byte(op),
+        Command::Unary(op) => unary_byte(op),
+        Command::PriceOracle1 => 32,
+        Command::PriceOracle1W => 33,
+        Command::Compare(op) => compare_byte(op),
+    }
+}
+
 // A command, the place of its operand bytes, and the place of the command after it.
 pub struct Cursor {
     pub command: Command,
