@@ -10,7 +10,7 @@ ghost use Prim.Native.Nat.{_≤_};
 ghost use lib.ListN.{length};
 ghost use mathlib.Core.List.{map};
 ghost use Rattle.semantics.specs.declared.Command.{Command};
-ghost use Rattle.semantics.specs.Code.{commandIn, commandOf, commandRow};
+ghost use Rattle.semantics.specs.Code.{commandIn, commandOf, commandRow, known};
 ghost use Rattle.semantics.specs.Operations.{cmpOps};
 ghost use Rattle.semantics.specs.Parse.{after};
 ghost use Rattle.commands.specs.Cursor.{cursorAt};
@@ -63,6 +63,26 @@ pub fn command_of(byte: u8) -> Command
         32 => Command::PriceOracle1,
         33 => Command::PriceOracle1W,
         _ => comparison_of(byte),
+    }
+}
+
+// Whether a command is that of some byte.
+pub fn is_known(command: Command) -> bool
+    ensures { λ r. ⌜ r ≡ known command ⌝ }
+{
+    match command {
+        Command::Unknown => false,
+        Command::IdxConst => true,
+        Command::CurrIdx => true,
+        Command::Index(_) => true,
+        Command::Const => true,
+        Command::CurrInputIdx => true,
+        Command::Lookup(_) => true,
+        Command::Binary(_) => true,
+        Command::Unary(_) => true,
+        Command::PriceOracle1 => true,
+        Command::PriceOracle1W => true,
+        Command::Compare(_) => true,
     }
 }
 

@@ -7,7 +7,7 @@ use native.Mathlib.Omega.{arith}
 use lib.ListN.{drop}
 use lib.Seq.{drop-drop}
 use Rattle.semantics.specs.Operations.{Token}
-use Rattle.emission.specs.Pieces.{joined, part, pieces, piecesAfter}
+use Rattle.emission.specs.Pieces.{Piece, bytesOf, joined, part, pieces, piecesAfter}
 
 skips : (s n : ℕ) (ts : List Token) → piecesAfter s n ts ≡ pieces (n - s) (drop s ts)
 unfolding piecesAfter
@@ -20,20 +20,20 @@ skips (suc s) (suc n) ts =
     one = omega arith
 
 pub pieces-step : (n : ℕ) (ts : List Token) (w : ℕ) → part ts .width ≡ w → 1 ≤ w
-    → pieces (suc n) ts ≡ pieces (suc n - w) (drop w ts) ++ part ts .bytes ∷ []
+    → pieces (suc n) ts ≡ pieces (suc n - w) (drop w ts) ++ part ts .piece ∷ []
 unfolding piecesAfter
 pieces-step n ts w e h =
     let back : 1 + (part ts .width - 1) ≡ w = omega arith in
     let count : n - (part ts .width - 1) ≡ suc n - w = omega arith in
-    ap (λ (l : List (List ℕ)). l ++ part ts .bytes ∷ [])
+    ap (λ (l : List Piece). l ++ part ts .piece ∷ [])
     (skips (part ts .width - 1) n (drop 1 ts)
     ∙ ap₂ (λ (k : ℕ) (l : List Token). pieces k l) count (drop-drop (part ts .width - 1) 1 ts ∙ ap (λ (k : ℕ). drop k ts) back))
 
-pub joined-append : (a b : List (List ℕ)) → joined (a ++ b) ≡ joined a ++ joined b
+pub joined-append : (a b : List Piece) → joined (a ++ b) ≡ joined a ++ joined b
 unfolding joined
 joined-append [] b = refl
 joined-append (p ∷ ps) b = rw (joined-append ps b) (simp append-assoc)
 
-pub joined-one : (p : List ℕ) → joined (p ∷ []) ≡ p
+pub joined-one : (p : Piece) → joined (p ∷ []) ≡ bytesOf p
 unfolding joined
-joined-one p = append-nil p
+joined-one p = append-nil (bytesOf p)

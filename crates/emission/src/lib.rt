@@ -1,38 +1,33 @@
 // The code of the tokens that were read: a piece for each production, from the last token back. First the oracle rule and the length are judged, and then the pieces are written.
+use commands::byte_of;
+use commands::is_known;
+use commands::width_of;
 use productions::INPUT;
 use productions::ROWS;
 use productions::command;
 use productions::kind_before;
 use productions::row_before;
 use productions::width;
+use semantics::Command;
 use semantics::MAX_TOKENS;
 use semantics::Refusal;
+use semantics::Terminal;
 ghost use mathlib.Core.Path.{_≡_};
 ghost use mathlib.Core.Bool.{_||_};
 ghost use mathlib.Core.List.{List, [], _∷_, _++_};
 ghost use Prim.Native.Nat.{ℕ, _+_, _-_, _≤_, _<_};
 ghost use lib.ListN.{length, take, drop};
-ghost use lib.Dec.{eqb};
 ghost use Rattle.slices.specs.Bytes.{littleEndian};
 ghost use Rattle.semantics.specs.Code.{maxTokens};
 ghost use Rattle.semantics.specs.Records.{recordsOf};
 ghost use Rattle.productions.specs.Before.{Numbered, Whole, tokensBefore};
 ghost use Rattle.productions.specs.Noted.{Fitting, Rows};
 ghost use Rattle.semantics.specs.Evaluate.{over};
-ghost use Rattle.emission.specs.Pieces.{Noticed, Placed, joined, judged, pieces, placedPiece, priceOracle1, put, sizeOf};
+ghost use Rattle.semantics.specs.Oracle.{among};
+ghost use Rattle.emission.specs.Pieces.{Noticed, Placed, bytesOf, joined, judged, lead, missingIf, pieces, placedPiece, put, sizeOf, terminalOf, unlessBroken};
 
-// The kind of the current index, and the commands that are told apart by number.
+// The kind of the current index.
 const CURR_INP: u8 = 4;
-
-const IDX_CONST: u8 = 1;
-
-const CONST: u8 = 16;
-
-const CURR_INPUT_IDX: u8 = 17;
-
-const PRICE_ORACLE_1: u8 = 32;
-
-const PRICE_ORACLE_1W: u8 = 33;
 
 // Bytes of a number, of a key, and of a key with a time; then of the pieces that have them: a command with a number, and one with a key and a time.
 const NUMBER_BYTES: usize = 8;
@@ -45,18 +40,14 @@ const NUMBER_PIECE: usize = 9;
 
 const ORACLE_PIECE: usize = 41;
 
-// How far behind the first token of PriceOracle1 its time and key stand, and the same of PriceOracle1W.
+// How far behind the first token of an oracle's form its time and key stand.
 const TIME: usize = 2;
 
 const KEY: usize = 7;
 
-const TIME_W: usize = 3;
-
-const KEY_W: usize = 8;
-
-// A command, 0 where there is none, and the place of its first token.
+// A command, `Command::Unknown` where there is none, and the place of its first token.
 pub struct CommandAt {
-    pub command: u8,
+    pub command: Command,
     pub first: usize,
 }
 
@@ -74,7 +65,7 @@ fn last_command(kinds: &[u8], rows: &[u8; MAX_TOKENS], end: usize) -> CommandAt
     let row = row_before(rows, end);
     if ROWS <= row {
         return CommandAt {
-            command: 0,
+            command: Command::Unknown,
             first: end - 1,
         };
     }
@@ -82,7 +73,7 @@ fn last_command(kinds: &[u8], rows: &[u8; MAX_TOKENS], end: usize) -> CommandAt
     if row == INPUT {
         if kind_before(kinds, start, 0) == CURR_INP {
             return CommandAt {
-                command: CURR_INPUT_IDX,
+                command: Command::CurrInputIdx,
                 first: start - 1,
             };
         }
@@ -93,36 +84,52 @@ fn last_command(kinds: &[u8], rows: &[u8; MAX_TOKENS], end: usize) -> CommandAt
     }
 }
 
-// The number of bytes of a command's piece: the command, and an operand of eight or forty bytes.
-fn size(command: u8) -> usize
+// The number of bytes of a command's piece: the command's, and its operands'.
+fn size(command: Command) -> usize
     ensures { λ r. ⌜ r ≡ sizeOf command ⌝ }
 {
-    if command == 0 {
-        return 0;
-    }
-    if command == IDX_CONST {
-        return NUMBER_PIECE;
-    }
-    if command == CONST {
-        return NUMBER_PIECE;
-    }
-    if command == PRICE_ORACLE_1 {
-        return ORACLE_PIECE;
-    }
-    if command == PRICE_ORACLE_1W {
-        return ORACLE_PIECE;
-    }
-    1
+    if is_known(command) { width_of(command) + 1 } else { 0 }
 }
 
-// Whether PriceOracle1 is among the later commands, once another command stands before the first.
-fn among_later(later: bool, first: u8) -> bool
-    ensures { λ r. ⌜ r ≡ (eqb first priceOracle1 || later) ⌝ }
+// What a command is to the oracle rule.
+fn terminal_of(command: Command) -> Terminal
+    ensures { λ r. ⌜ r ≡ terminalOf command ⌝ }
 {
-    if first == PRICE_ORACLE_1 {
-        return true;
+    match command {
+        Command::Unknown => Terminal::Other,
+        Command::IdxConst => Terminal::Other,
+        Command::CurrIdx => Terminal::Other,
+        Command::Index(_) => Terminal::Other,
+        Command::Const => Terminal::Other,
+        Command::CurrInputIdx => Terminal::Other,
+        Command::Lookup(_) => Terminal::Other,
+        Command::Binary(_) => Terminal::Other,
+        Command::Unary(_) => Terminal::Other,
+        Command::PriceOracle1 => Terminal::PriceOracle1,
+        Command::PriceOracle1W => Terminal::PriceOracle1W,
+        Command::Compare(_) => Terminal::Other,
     }
-    later
+}
+
+// Whether PriceOracle1 is among the later terminals, once another one stands before the first.
+fn among_later(later: bool, first: Terminal) -> bool
+    ensures { λ r. ⌜ r ≡ (among (first ∷ []) || later) ⌝ }
+{
+    match first {
+        Terminal::PriceOracle1 => true,
+        Terminal::PriceOracle1W => later,
+        Terminal::Other => later,
+    }
+}
+
+// The length of code that does not begin with PriceOracle1W.
+fn unless_missing(later: bool, bytes: usize) -> Judged
+    ensures { λ r. ⌜ r ≡ unlessBroken (missingIf later) bytes ⌝ }
+{
+    if later {
+        return Judged::Broken(Refusal::PriceOracle1Missing);
+    }
+    Judged::Kept(bytes)
 }
 
 // The length of the code of the tokens from `start` on; 4 if the first command is PriceOracle1W, else 5 if PriceOracle1 is among the later ones.
@@ -134,22 +141,32 @@ pub fn judge(kinds: &[u8], rows: &[u8; MAX_TOKENS], start: usize) -> Judged
 {
     let mut end = kinds.len();
     let mut bytes: usize = 0;
-    let mut first: u8 = 0;
+    let mut first = Terminal::Other;
     let mut later = false;
     while start < end {
         let last = last_command(kinds, rows, end);
+        let command = last.command;
         later = among_later(later, first);
-        first = last.command;
-        bytes += size(last.command);
+        first = terminal_of(command);
+        bytes += size(command);
         end = last.first;
     }
-    if first == PRICE_ORACLE_1W {
-        return Judged::Broken(Refusal::PriceOracle1WFirst);
+    match first {
+        Terminal::PriceOracle1 => unless_missing(later, bytes),
+        Terminal::PriceOracle1W => Judged::Broken(Refusal::PriceOracle1WFirst),
+        Terminal::Other => unless_missing(later, bytes),
     }
-    if later {
-        return Judged::Broken(Refusal::PriceOracle1Missing);
+}
+
+// How many tokens a command has before the form of its oracle.
+fn lead(command: Command) -> usize
+    ensures { λ r. ⌜ r ≡ lead command ⌝ }
+{
+    match terminal_of(command) {
+        Terminal::PriceOracle1 => 0,
+        Terminal::PriceOracle1W => 1,
+        Terminal::Other => 0,
     }
-    Judged::Kept(bytes)
 }
 
 // A place in the key bytes as an index.
@@ -159,22 +176,22 @@ fn u32_to_usize(x: u32) -> usize
     x as usize
 }
 
-// A command with a number of eight bytes, which end at `at`.
-fn put_number(code: &mut [u8], at: usize, command: u8, number: u64)
+// A command's byte with a number of eight bytes, which end at `at`.
+fn put_number(code: &mut [u8], at: usize, byte: u8, number: u64)
     requires { ⌜ (9 ≤ at) × (at ≤ length (now code)) ⌝ }
-    ensures { λ _. ⌜ now (code .exit) ≡ put (now (code .entry)) at (command ∷ littleEndian 8 number) ⌝ }
+    ensures { λ _. ⌜ now (code .exit) ≡ put (now (code .entry)) at (byte ∷ littleEndian 8 number) ⌝ }
 {
-    code[at - NUMBER_PIECE] = command;
+    code[at - NUMBER_PIECE] = byte;
     slices::write_le64(code, at - NUMBER_BYTES, number);
 }
 
-// A command with a key of 32 bytes and a time of eight, which end at `at`.
-fn put_oracle(code: &mut [u8], at: usize, command: u8, keys: &[u8], place: usize, time: u64)
+// A command's byte with a key of 32 bytes and a time of eight, which end at `at`.
+fn put_oracle(code: &mut [u8], at: usize, byte: u8, keys: &[u8], place: usize, time: u64)
     requires { ⌜ (41 ≤ at) × (at ≤ length (now code)) × (place + 32 ≤ length (now keys)) ⌝ }
     ensures { λ _. ⌜ now (code .exit) ≡ put (now (code .entry)) at
-        (command ∷ take 32 (drop place (now (keys .entry))) ++ littleEndian 8 time) ⌝ }
+        (byte ∷ take 32 (drop place (now (keys .entry))) ++ littleEndian 8 time) ⌝ }
 {
-    code[at - ORACLE_PIECE] = command;
+    code[at - ORACLE_PIECE] = byte;
     slices::copy(keys, place, code, at - KEY_AND_TIME_BYTES, KEY_BYTES);
     slices::write_le64(code, at - NUMBER_BYTES, time);
 }
@@ -191,40 +208,26 @@ fn put_command(
     requires { ⌜ Placed (now numbers) (now places) (now keys) last ⌝ }
     requires { ⌜ (sizeOf (last .command) ≤ at) × (at ≤ length (now code)) ⌝ }
     ensures { λ _. ⌜ now (code .exit) ≡ put (now (code .entry)) at
-        (placedPiece (recordsOf [] (now (numbers .entry)) (now (places .entry)) (now (keys .entry))) (last .command) (last .first)) ⌝ }
+        (bytesOf (placedPiece (recordsOf [] (now (numbers .entry)) (now (places .entry)) (now (keys .entry))) (last .command) (last .first))) ⌝ }
 {
     let command = last.command;
     let first = last.first;
-    if command == 0 {
+    if !is_known(command) {
         return;
     }
-    if command == PRICE_ORACLE_1 {
-        put_oracle(
-            code,
-            at,
-            command,
-            keys,
-            u32_to_usize(places[first + KEY]),
-            numbers[first + TIME],
-        );
+    let byte = byte_of(command);
+    let width = width_of(command);
+    if width == 0 {
+        code[at - 1] = byte;
         return;
     }
-    if command == PRICE_ORACLE_1W {
-        put_oracle(
-            code,
-            at,
-            command,
-            keys,
-            u32_to_usize(places[first + KEY_W]),
-            numbers[first + TIME_W],
-        );
+    if width == NUMBER_BYTES {
+        put_number(code, at, byte, numbers[first]);
         return;
     }
-    if size(command) == NUMBER_PIECE {
-        put_number(code, at, command, numbers[first]);
-        return;
-    }
-    code[at - 1] = command;
+    let form = first + lead(command);
+    let place = u32_to_usize(places[form + KEY]);
+    put_oracle(code, at, byte, keys, place, numbers[form + TIME]);
 }
 
 // Writes the code of the tokens from `start` on, of so many bytes, to the front of the buffer.
@@ -251,8 +254,9 @@ pub fn emit(
     let mut at = bytes;
     while start < end {
         let last = last_command(kinds, rows, end);
+        let command = last.command;
         put_command(numbers, places, keys, last, code, at);
-        at -= size(last.command);
+        at -= size(command);
         end = last.first;
     }
 }

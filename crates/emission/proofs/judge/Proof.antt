@@ -1,16 +1,21 @@
--- The invariant: the pieces so far are counted, and the first of them and whether 32 is among the others are known.
+-- The invariant: the pieces so far are counted, and the first terminal and whether PriceOracle1 is among the others are known.
 use borrow.Author.Needs.{needs}
 use Prim.Native.Nat.{ℕ, _+_, _*_, _≤_}
-use mathlib.Core.Path.{subst⁻¹}
+use mathlib.Core.Path.{_≡_, ap, subst⁻¹, _∙_}
 use mathlib.Core.List.{List}
 use native.Mathlib.Omega.{arith}
 use lib.ListN.{length}
+use Rattle.semantics.specs.declared.Refusal.{Refusal}
+use Rattle.semantics.specs.declared.Terminal.{Terminal}
 use Rattle.semantics.specs.Records.{Records, recordsOf}
 use Rattle.productions.specs.Before.{Whole}
 use Rattle.productions.specs.Noted.{Rows}
 use Rattle.productions.proofs.Noted.{fitting-fewer, rows-fewer}
+use Rattle.emission.specs.declared.CommandAt.{CommandAt}
+use Rattle.emission.specs.declared.Judged.{Judged}
+use Rattle.emission.specs.Pieces.{leadOf, missingIf, sizeOf, unlessBroken}
 use Rattle.emission.proofs.Mets.{size-most}
-use Rattle.emission.proofs.Emits.{Judging, judged-first, judged-kept, judged-later, judging-next, judging-start}
+use Rattle.emission.proofs.Emits.{Judging, judged-first, judged-later, judging-next, judging-start}
 use Rattle.emission.proofs.judge.Statement.{statement}
 use Rattle.emission.proofs.judge.Tie as tie
 
@@ -39,40 +44,50 @@ last-command-requires c κs =
     let a = c .before in
     (fitting-fewer _ _ _ (start₁ a .pre) (a .loop .inv .0), a .loop .inv .0, omega (arith, c .loop-test .taken))
 
+module _ (c : tie.After-size Inv-loop μ-loop) where
+  abbrev at : tie.At-loop Inv-loop μ-loop
+  at = c .before .before .before .before .before
+
+  abbrev met : CommandAt
+  met = c .before .before .before .last-command .result
+
 loop-again : tie.Need-loop-again Inv-loop μ-loop
 loop-again c =
-    let a = c .before .before .before .before in
-    let m = c .before .before .last-command in
+    let a = at c in
+    let m = c .before .before .before .last-command in
     let low = m .ensures .falls in
-    let few = size-most (m .result .command) in
-    let grown : a .loop .bytes + c .size .result + 41 * m .result .first ≤ 41 * length (start₁ a .args .kinds .now) = omega (arith, c .size .ensures) in (
+    let few = size-most (met c .command) in
+    let grown : a .loop .bytes + c .size .result + 41 * met c .first ≤ 41 * length (start₁ a .args .kinds .now) = omega (arith, c .size .ensures) in (
       omega arith,
       grown,
-      λ numbers places keys noted whole. subst⁻¹ (λ (n : ℕ). Judging (records a numbers places keys) (start₁ a .args .start) (m .result .first) (a .loop .bytes + n) (m .result .command) (c .before .among-later .result)) (c .size .ensures)
-          (judging-next (records a numbers places keys) (start₁ a .args .start) (a .loop .end) (a .loop .bytes) (a .loop .first) (a .loop .later) (a .loop .inv .2 numbers places keys noted whole) (a .loop .inv .0) whole
-          (c .before .before .before .loop-test .taken) (m .result) (m .ensures .met numbers places keys (rows-fewer _ _ _ _ noted (a .loop .inv .0))) (c .before .among-later .result) (c .before .among-later .ensures)),
+      λ numbers places keys noted whole. judging-next (records a numbers places keys) (start₁ a .args .start) (a .loop .end) (a .loop .bytes) (a .loop .first) (a .loop .later) (a .loop .inv .2 numbers places keys noted whole) (a .loop .inv .0) whole
+          (c .before .before .before .before .loop-test .taken) (met c) (m .ensures .met numbers places keys (rows-fewer _ _ _ _ noted (a .loop .inv .0))) (c .before .before .among-later .result) (c .before .before .among-later .ensures)
+          (c .before .terminal-of .result) (c .before .terminal-of .ensures) (c .size .result) (c .size .ensures),
     )
 
 add-bytes : tie.Need-add-bytes Inv-loop μ-loop
 add-bytes c =
-    let a = c .before .before .before .before in
-    let few = size-most (c .before .before .last-command .result .command) in
-    omega (arith, c .size .ensures, start₁ a .pre .few, a .loop .inv)
+    let few = size-most (met c .command) in
+    omega (arith, c .size .ensures, start₁ (at c) .pre .few, at c .loop .inv)
 
 returns : tie.Need-returns Inv-loop μ-loop
 returns c numbers places keys noted whole =
-    let a = c .before .before in
-    judged-first (records a numbers places keys) (start₁ a .args .start) (a .loop .end) (a .loop .bytes) (a .loop .first) (a .loop .later) (a .loop .inv .2 numbers places keys noted whole) (c .before .loop-test .left) (c .if1 .taken)
+    let a = c .before .before .before .before in
+    c .unless-missing .ensures
+    ∙ judged-later (records a numbers places keys) (start₁ a .args .start) (a .loop .end) (a .loop .bytes) (a .loop .first) (a .loop .later) (a .loop .inv .2 numbers places keys noted whole) (c .before .before .before .loop-test .left)
+    (ap leadOf (c .before .enum-told .given .1))
 
 returns-2 : tie.Need-returns-2 Inv-loop μ-loop
 returns-2 c numbers places keys noted whole =
     let a = c .before .before .before in
-    judged-later (records a numbers places keys) (start₁ a .args .start) (a .loop .end) (a .loop .bytes) (a .loop .first) (a .loop .later) (a .loop .inv .2 numbers places keys noted whole) (c .before .before .loop-test .left) (c .before .if1 .left) (c .if2 .taken)
+    judged-first (records a numbers places keys) (start₁ a .args .start) (a .loop .end) (a .loop .bytes) (a .loop .first) (a .loop .later) (a .loop .inv .2 numbers places keys noted whole) (c .before .before .loop-test .left) (c .enum-told2 .given .1)
 
 returns-3 : tie.Need-returns-3 Inv-loop μ-loop
 returns-3 c numbers places keys noted whole =
-    let a = c .before .before .before in
-    judged-kept (records a numbers places keys) (start₁ a .args .start) (a .loop .end) (a .loop .bytes) (a .loop .first) (a .loop .later) (a .loop .inv .2 numbers places keys noted whole) (c .before .before .loop-test .left) (c .before .if1 .left) (c .if2 .left)
+    let a = c .before .before .before .before in
+    c .unless-missing2 .ensures
+    ∙ judged-later (records a numbers places keys) (start₁ a .args .start) (a .loop .end) (a .loop .bytes) (a .loop .first) (a .loop .later) (a .loop .inv .2 numbers places keys noted whole) (c .before .before .before .loop-test .left)
+    (ap leadOf (c .before .enum-told3 .given .1))
 
 pub judge-spec : {M : Type 1} → statement M
 judge-spec =
@@ -84,9 +99,15 @@ judge-spec =
     last-command-requires
     (λ c κs. search needs)
     (λ c κs. search needs)
+    (λ c κs. search needs)
     add-bytes
-    (λ c. c .before .before .last-command .ensures .falls)
+    (λ c. c .before .before .before .last-command .ensures .falls)
     loop-again
+    (λ c. search needs)
+    (λ c κs. search needs)
+    (λ c. search needs)
+    (λ c. search needs)
+    (λ c κs. search needs)
     returns
     returns-2
     returns-3)

@@ -41,8 +41,8 @@ returns c =
       met = λ numbers places keys p. met-none (records s numbers places keys) (s .args .end) _ (b .row-before .ensures ∙ p .noted _ (omega arith)) (c .if1 .taken) (s .pre .2);
     }
 
-sub-t11 : tie.Need-sub-t11
-sub-t11 c =
+sub-t13 : tie.Need-sub-t13
+sub-t13 c =
     let w = c .before .before .before in twin-some (records (start w) [] [] []) _ _ (c .before .kind-before .ensures [] [] []) (c .if3 .taken)
 
 returns-2 : tie.Need-returns-2
@@ -72,7 +72,7 @@ last-command-spec =
     (λ c κs. search needs)
     (λ c. own c .1)
     (λ c κs. omega (arith, start (c .before) .pre .1))
-    sub-t11
+    sub-t13
     returns-2
     (λ c κs. c .before .before .if1 .left)
     returns-3)

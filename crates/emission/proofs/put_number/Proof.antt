@@ -1,4 +1,4 @@
--- The command, and the number behind it.
+-- The command's byte, and the number behind it.
 use borrow.Author.Needs.{needs}
 use mathlib.Core.Path.{refl, _∙_}
 use native.Mathlib.Omega.{arith}
@@ -10,7 +10,7 @@ use Rattle.emission.proofs.put_number.Tie as tie
 returns : tie.Need-returns
 returns c =
     let s = c .before .before .before .before .before in
-    number-put _ _ _ (s .args .at) (s .args .command) (s .args .number) (s .pre .0) (s .pre .1) refl (c .before .before .write-le64 .ensures)
+    number-put _ _ _ (s .args .at) (s .args .byte) (s .args .number) (s .pre .0) (s .pre .1) refl (c .before .before .write-le64 .ensures)
 
 same-length : tie.Need-same-length
 same-length c = c .before .before .write-le64 .kept .0 ∙ simp length-set

@@ -1,4 +1,4 @@
--- The command, the key behind it, and the time.
+-- The command's byte, the key behind it, and the time.
 use borrow.Author.Needs.{needs}
 use mathlib.Core.Path.{_≡_, refl, _∙_}
 use native.Mathlib.Omega.{arith}
@@ -16,7 +16,7 @@ same-length c = c .before .before .write-le64 .kept .0 ∙ copied (c .before .be
 returns : tie.Need-returns
 returns c =
     let s = c .before .before .before .before .before .before .before .before .before .before in
-    oracle-put _ _ _ _ (s .args .at) (s .args .command) (s .args .keys .now) (s .args .place) (s .args .time) (s .pre .0) (s .pre .1) (s .pre .2) refl
+    oracle-put _ _ _ _ (s .args .at) (s .args .byte) (s .args .keys .now) (s .args .place) (s .args .time) (s .pre .0) (s .pre .1) (s .pre .2) refl
     (c .before .before .before .before .before .before .copy .ensures) (c .before .before .write-le64 .ensures)
 
 pub put-oracle-spec : {M : Type 1} → statement M

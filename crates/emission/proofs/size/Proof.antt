@@ -1,33 +1,17 @@
--- By the tests.
-use borrow.Author.Tests.{eq-eqb, ne-eqb}
+-- By the test.
+use borrow.Author.Needs.{needs}
+use mathlib.Core.Path.{sym, ap, _∙_}
+use native.Mathlib.Omega.{arith}
+use Prim.Native.Nat.{ℕ, _+_}
+use Rattle.emission.proofs.Mets.{width-most}
 use Rattle.emission.proofs.size.Statement.{statement}
 use Rattle.emission.proofs.size.Tie as tie
 
+add-result : tie.Need-add-result
+add-result c = omega (arith, c .width-of .ensures, width-most (c .before .before .before .args .command))
+
 returns : tie.Need-returns
-returns c = rw (eq-eqb _ 0 (c .if1 .taken))
-
-returns-2 : tie.Need-returns-2
-returns-2 c = rw (ne-eqb _ 0 (c .before .if1 .left), eq-eqb _ 1 (c .if2 .taken))
-
-returns-3 : tie.Need-returns-3
-returns-3 c = rw (ne-eqb _ 0 (c .before .before .if1 .left), ne-eqb _ 1 (c .before .if2 .left), eq-eqb _ 16 (c .if3 .taken))
-
-returns-4 : tie.Need-returns-4
-returns-4 c = rw (ne-eqb _ 0 (c .before .before .before .if1 .left), ne-eqb _ 1 (c .before .before .if2 .left), ne-eqb _ 16 (c .before .if3 .left), eq-eqb _ 32 (c .if4 .taken))
-
-returns-5 : tie.Need-returns-5
-returns-5 c = rw (ne-eqb _ 0 (c .before .before .before .before .if1 .left), ne-eqb _ 1 (c .before .before .before .if2 .left), ne-eqb _ 16 (c .before .before .if3 .left), ne-eqb _ 32 (c .before .if4 .left), eq-eqb _ 33 (c .if5 .taken))
-
-returns-6 : tie.Need-returns-6
-returns-6 c = rw (ne-eqb _ 0 (c .before .before .before .before .if1 .left), ne-eqb _ 1 (c .before .before .before .if2 .left), ne-eqb _ 16 (c .before .before .if3 .left), ne-eqb _ 32 (c .before .if4 .left), ne-eqb _ 33 (c .if5 .left))
+returns c = rw (sym (c .before .before .is-known .ensures) ∙ c .before .if1 .taken, c .width-of .ensures)
 
 pub size-spec : {M : Type 1} → statement M
-size-spec =
-    tie.close
-    (tie.spec
-    returns
-    returns-2
-    returns-3
-    returns-4
-    returns-5
-    returns-6)
+size-spec = tie.close (tie.spec (λ c κs. search needs) (λ c κs. search needs) add-result returns (λ c. search needs))
