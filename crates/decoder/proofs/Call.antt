@@ -28,7 +28,7 @@ use Rattle.semantics.proofs.ToldApart.{call-told-apart}
 use Rattle.productions.specs.Before.{before}
 use Rattle.readers.specs.Readings.{readingOf}
 use Rattle.decoder.specs.Sound.{Ready}
-use Rattle.emission.specs.Pieces.{broken, joined, judged, pieces, unlessBroken}
+use Rattle.emission.specs.Pieces.{Piece, broken, joined, judged, pieces, unlessBroken}
 use Rattle.emission.specs.declared.Judged.{Judged}
 use Rattle.readers.specs.declared.Reading as R
 use Rattle.productions.proofs.Tokens.{length-before, reverse-tokens}
@@ -36,7 +36,7 @@ use Rattle.emission.proofs.Trees.{arith-joined, arithPieces, form-pieces}
 use Rattle.emission.proofs.Rules.{broken-rule}
 
 -- the pieces of the tokens from `start` on
-abbrev pub allPieces : Records → ℕ → List (List ℕ)
+abbrev pub allPieces : Records → ℕ → List Piece
 allPieces r start = pieces (length (r .kinds) - start) (before (tokenAt r) (length (r .kinds)))
 
 decode-is : (r : Records) → decode (tokens r) ≡ reading (fromTokens (before (tokenAt r) (length (r .kinds))))

@@ -1,26 +1,20 @@
 -- The piece that the tokens before a place end with (`met-none`, `met-twin`, `met-row`), and its bytes by its command's width (`size-placed` ..).
 use Prim.Native.Nat.{ℕ, zero, suc, _+_, _-_, _≤_, _<_}
-use mathlib.Core.Bool.{Bool, true, false, cond, _||_, not}
-use mathlib.Core.Path.{_≡_, refl, sym, ap, subst, subst⁻¹, _∙_}
+use mathlib.Core.Bool.{Bool, true, false, cond}
+use mathlib.Core.Path.{_≡_, refl, sym, ap, subst⁻¹, _∙_}
 use mathlib.Core.List.{List, [], _∷_, _++_, map}
-use native.Mathlib.Nat.{add-zero, zero-add}
+use native.Mathlib.Nat.{add-zero}
 use native.Mathlib.Omega.{arith}
-use borrow.Author.Tests.{eq-eqb, eqb-true, ne-eqb}
-use lib.Dec.{eqb}
+use borrow.Author.Tests.{eq-eqb}
 use lib.ListN.{length, getD, drop, length-append, length-drop, List·getD-append, List·getD-map}
 use lib.Seq.{length-take-le}
 use Rattle.slices.specs.Bytes.{littleEndian}
 use Rattle.slices.proofs.Bytes.{length-littleEndian}
 use Rattle.semantics.specs.Operations.{Token, op, bytes32, bytes8, num}
-use Rattle.semantics.specs.declared.AmountList.{AmountList}
-use Rattle.semantics.specs.declared.BinOp.{BinOp}
-use Rattle.semantics.specs.declared.CmpOp.{CmpOp}
-use Rattle.semantics.specs.declared.IdxOp.{IdxOp}
-use Rattle.semantics.specs.declared.UnOp.{UnOp}
 use Rattle.semantics.specs.declared.Command.{Command}
 use Rattle.semantics.specs.Code.{commandRow, known}
 use Rattle.semantics.specs.Token.{exprForm}
-use Rattle.semantics.specs.FromTokens.{Head, IdxHead, headForm, idxHeadForm, keyAt, numberAt}
+use Rattle.semantics.specs.FromTokens.{Head, IdxHead, headForm, idxHeadForm}
 use Rattle.semantics.proofs.Machine.{oracle-length}
 use Rattle.semantics.specs.Records.{Records, keyOf, tokenAt, tokenOf}
 use Rattle.productions.specs.Before.{Whole, before}
@@ -30,7 +24,6 @@ use Rattle.emission.specs.declared.CommandAt.{CommandAt}
 use Rattle.productions.proofs.Tokens.{getD-before, length-before, recorded}
 use Rattle.productions.proofs.Endings.{production-sound}
 use Rattle.productions.proofs.Places.{At, neither, row-missing}
-use Rattle.productions.proofs.Table.{all, all-at, value-at, values}
 
 -- the token at a place of a production's own
 own-size : (t : ℕ → Token) (end start : ℕ) (own : List Token) → before t end ≡ own ++ before t start → end ≡ length own + start

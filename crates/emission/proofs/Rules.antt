@@ -1,4 +1,4 @@
--- The oracle rule over pieces is the rule over a condition's terminals: `pieces-rule`.
+-- The oracle rule over pieces is the rule over a condition's terminals: `broken-rule`.
 use mathlib.Core.Bool.{Bool, true, false, _||_}
 use mathlib.Core.Path.{_≡_, refl, sym, ap, _∙_}
 use mathlib.Core.List.{List, [], _∷_, _++_, append-assoc, append-nil}
@@ -6,7 +6,7 @@ use Rattle.semantics.specs.declared.IdxOp.{IdxOp}
 use Rattle.semantics.specs.declared.Terminal.{Terminal}
 use Rattle.semantics.specs.Trees.{Arith, Expr, IdxExpr}
 use Rattle.semantics.specs.Oracle.{among, missing, oracleRule, rule, terminals}
-use Rattle.emission.specs.Pieces.{Piece, missingIf, ownPiece, terminalsOf}
+use Rattle.emission.specs.Pieces.{Piece, broken, missingIf, ownPiece, terminalsOf}
 use Rattle.emission.proofs.Trees.{arithPieces, betweenPieces, exprPieces, idxPieces}
 
 or-assoc : (a b c : Bool) → ((a || b) || c) ≡ (a || (b || c))
@@ -67,9 +67,9 @@ rule-expr (Expr.Unary o x) q m right h = simp append-assoc (rule-expr x _ m righ
 rule-expr (Expr.PriceOracle1 key time) q m right h = ap missing (append-nil (terminalsOf q)) ∙ ap missingIf h
 rule-expr (Expr.PriceOracle1W key time) q m right h = refl
 
-pub pieces-rule : (a : Arith) → rule (terminalsOf (arithPieces a)) [] ≡ oracleRule a
+pub broken-rule : (a : Arith) → broken (arithPieces a) ≡ oracleRule a
 unfolding arithPieces oracleRule ownPiece
-pieces-rule (Arith.Compare o x y) =
+broken-rule (Arith.Compare o x y) =
     simp append-assoc
     (rule-expr x _ [] (terminals y) (among-expr y _ ∙ or-no (among (terminals y)))
     ∙ ap (λ (l : List Terminal). rule l (terminals y)) (append-nil (terminals x)))

@@ -91,6 +91,10 @@ terminalOf c = getD (commandRow c .terminals) 0 Terminal.Other
 abbrev pub terminalsOf : List Piece → List Terminal
 terminalsOf ps = map (λ p. terminalOf (p .command)) ps
 
+-- the oracle rule over all pieces
+abbrev pub broken : List Piece → Option Refusal
+broken ps = rule (terminalsOf ps) []
+
 abbrev pub missingIf : Bool → Option Refusal
 missingIf later = cond later (some Refusal.PriceOracle1Missing) none
 
@@ -98,9 +102,8 @@ abbrev pub unlessBroken : Option Refusal → ℕ → Judged
 unlessBroken none size = Judged.Kept size
 unlessBroken (some r) size = Judged.Broken r
 
--- the oracle rule over all pieces, and their length
 unfoldable pub judged : List Piece → Judged
-judged ps = unlessBroken (rule (terminalsOf ps) []) (length (joined ps))
+judged ps = unlessBroken (broken ps) (length (joined ps))
 
 -- how many tokens a command has before the form of its oracle
 abbrev pub leadOf : Terminal → ℕ

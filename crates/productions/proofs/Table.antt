@@ -3,7 +3,6 @@ use Prim.Native.Nat.{ℕ, zero, suc, _+_, _-_, _<_, _≤_}
 use mathlib.Core.Bool.{Bool, true, false, not, _&&_, _||_}
 use mathlib.Core.Path.{_≡_, refl, sym, ap, _∙_}
 use mathlib.Core.List.{List, [], _∷_, map}
-use native.Mathlib.Nat.{add-suc, add-zero, suc-add}
 use native.Mathlib.Omega.{arith}
 use borrow.Author.Tests.{eqb-true, leb-true, lt-ltb, ltb-false, ltb-true, ne-eqb}
 use lib.Dec.{eqb, leb, ltb}
@@ -77,16 +76,6 @@ own-kinds k h wide =
 -- the last row, if it is none of the others
 pub beyond : (n k : ℕ) → n ≤ k → (k ≡ n → ⊥) → suc n ≤ k
 beyond n k h e = omega arith
-
--- a table of a function's values
-abbrev pub values : (ℕ → ℕ) → ℕ → ℕ → List ℕ
-values f i zero = []
-values f i (suc n) = f i ∷ values f (suc i) n
-
-pub value-at : (f : ℕ → ℕ) (i n k : ℕ) → k < n → getD (values f i n) k 0 ≡ f (i + k)
-value-at f i zero k h = absurd (omega arith)
-value-at f i (suc n) zero h = ap f (sym (add-zero i))
-value-at f i (suc n) (suc k) h = value-at f (suc i) n k (omega arith) ∙ ap f (suc-add i k ∙ sym (add-suc i k))
 
 -- a run of equal elements
 run-at : {A : Type 0} (l : List A) (d a : A) (from n k : ℕ) → take n (drop from l) ≡ replicate n a → from ≤ k → k < from + n → getD l k d ≡ a

@@ -5,12 +5,10 @@ use mathlib.Core.Bool.{Bool, true, false, _&&_, cond}
 use mathlib.Core.List.{List, [], _∷_, _++_, map, reverse}
 use lib.ListN.{length, getD, drop, take}
 use lib.Dec.{eqb, ltb}
-use Rattle.semantics.specs.Operations.{Token, op, idxRow, listRow, binRow, unRow, cmpRow, amountLists, binOps, cmpOps, idxOps, unOps}
-use Rattle.semantics.specs.Trees.{IdxExpr, Expr}
+use Rattle.semantics.specs.Operations.{Token, op, idxRow, cmpRow, amountLists, binOps, cmpOps, idxOps, unOps}
 use Rattle.semantics.specs.declared.Command.{Command}
 use Rattle.semantics.specs.declared.IdxOp.{IdxOp}
 use Rattle.semantics.specs.declared.CmpOp.{CmpOp}
-use Rattle.semantics.specs.Code.{idxCode, exprCode}
 use Rattle.semantics.specs.FromTokens.{Found, Head, IdxHead, found, headForm, heads, idxHeadForm, nothing, numberAt}
 use Rattle.token_table.specs.TokenRows.{ownTokens}
 
@@ -35,20 +33,6 @@ productions ts =
 
 abbrev pub productionOf : List Token → ℕ → Production
 productionOf ts k = getD (productions ts) k Production.between
-
--- its own part of the condition code
-unfoldable pub ownCode : Production → List ℕ
-ownCode (Production.value (Head.const n)) = exprCode (Expr.Const n)
-ownCode (Production.value (Head.lookup l)) = listRow l .command ∷ []
-ownCode (Production.value (Head.unary o)) = unRow o .command ∷ []
-ownCode (Production.value (Head.binary o)) = binRow o .command ∷ []
-ownCode (Production.value (Head.oracle key time)) = exprCode (Expr.PriceOracle1 key time)
-ownCode (Production.value (Head.oracleW key time)) = exprCode (Expr.PriceOracle1W key time)
-ownCode (Production.index (IdxHead.const n)) = idxCode (IdxExpr.Const n)
-ownCode (Production.index IdxHead.curr) = idxCode IdxExpr.CurrIdx
-ownCode (Production.index (IdxHead.oper o)) = idxRow o .command ∷ []
-ownCode Production.between = []
-ownCode (Production.comparison o) = cmpRow o .command ∷ []
 
 -- kinds that the rows are told apart by
 abbrev pub equalKind : ℕ

@@ -1,19 +1,16 @@
 -- The invariant: the pieces so far are counted, and the first terminal and whether PriceOracle1 is among the others are known.
 use borrow.Author.Needs.{needs}
 use Prim.Native.Nat.{ℕ, _+_, _*_, _≤_}
-use mathlib.Core.Path.{_≡_, ap, subst⁻¹, _∙_}
+use mathlib.Core.Path.{ap, _∙_}
 use mathlib.Core.List.{List}
 use native.Mathlib.Omega.{arith}
 use lib.ListN.{length}
-use Rattle.semantics.specs.declared.Refusal.{Refusal}
-use Rattle.semantics.specs.declared.Terminal.{Terminal}
 use Rattle.semantics.specs.Records.{Records, recordsOf}
 use Rattle.productions.specs.Before.{Whole}
 use Rattle.productions.specs.Noted.{Rows}
 use Rattle.productions.proofs.Noted.{fitting-fewer, rows-fewer}
 use Rattle.emission.specs.declared.CommandAt.{CommandAt}
-use Rattle.emission.specs.declared.Judged.{Judged}
-use Rattle.emission.specs.Pieces.{leadOf, missingIf, sizeOf, unlessBroken}
+use Rattle.emission.specs.Pieces.{leadOf}
 use Rattle.emission.proofs.Mets.{size-most}
 use Rattle.emission.proofs.Emits.{Judging, judged-first, judged-later, judging-next, judging-start}
 use Rattle.emission.proofs.judge.Statement.{statement}

@@ -10,7 +10,7 @@ use lib.ListN.{length, drop, getD, take}
 use Rattle.slices.specs.Bytes.{littleEndian}
 use Rattle.semantics.specs.Code.{commandRow, known}
 use Rattle.semantics.specs.Records.{Records, recordsOf}
-use Rattle.emission.specs.Pieces.{bytesOf, lead, placedPiece, put, sizeOf}
+use Rattle.emission.specs.Pieces.{lead, put}
 use Rattle.emission.proofs.Buffer.{command-put, put-nothing}
 use Rattle.emission.proofs.Mets.{nothing-placed, number-placed, one-placed, oracle-placed, oracle-width, size-known}
 use Rattle.emission.proofs.put_command.Statement.{statement}

@@ -1,8 +1,7 @@
 -- By the test.
 use borrow.Author.Needs.{needs}
-use mathlib.Core.Path.{sym, ap, _∙_}
+use mathlib.Core.Path.{sym, _∙_}
 use native.Mathlib.Omega.{arith}
-use Prim.Native.Nat.{ℕ, _+_}
 use Rattle.emission.proofs.Mets.{width-most}
 use Rattle.emission.proofs.size.Statement.{statement}
 use Rattle.emission.proofs.size.Tie as tie
