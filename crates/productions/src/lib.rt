@@ -279,6 +279,22 @@ fn ends(kinds: &[u8], numbers: &[u64], end: usize, row: usize) -> bool
     true
 }
 
+// The same. The oracles' rows, which are the longest, have calls of their own, in which their tokens are constants.
+fn ends_with(kinds: &[u8], numbers: &[u64], end: usize, row: usize) -> bool
+    requires { ⌜ (length (now kinds) ≤ length (now numbers)) × (end ≤ length (now kinds)) ⌝ }
+    requires { ⌜ (row < rowCount) × (1 < length (rowAt row .marks)) ⌝ }
+    ensures { λ r. ⌜ ((places keys : List ℕ) →
+        r ≡ ends (rowAt row .marks) (tokensBefore (now (kinds .entry)) (now (numbers .entry)) places keys end)) ⌝ }
+{
+    if row == ORACLES {
+        return ends(kinds, numbers, end, ORACLES);
+    }
+    if row == PRICE_ORACLE_1W {
+        return ends(kinds, numbers, end, PRICE_ORACLE_1W);
+    }
+    ends(kinds, numbers, end, row)
+}
+
 // Whether a Num of 1 and Equal stand before the last one of the tokens before `end`.
 fn ends_with_one_equal(kinds: &[u8], numbers: &[u64], end: usize) -> bool
     requires { ⌜ (length (now kinds) ≤ length (now numbers)) × (end ≤ length (now kinds)) ⌝ }
@@ -315,7 +331,7 @@ fn production(kinds: &[u8], numbers: &[u64], end: usize) -> usize
         }
         return ROWS;
     }
-    if ends(kinds, numbers, end, row) {
+    if ends_with(kinds, numbers, end, row) {
         return row;
     }
     ROWS

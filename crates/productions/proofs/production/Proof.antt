@@ -50,7 +50,7 @@ returns-4 c places keys =
     (c .before .ends-with-one-equal .result) (c .before .ends-with-one-equal .ensures places keys) (c .if4 .left)
 
 -- others, kind by kind; a row of one token does not come here
-several : tie.Need-ends-requires
+several : tie.Need-ends-with-requires
 several c κs =
     let a = c .before .before .before .before in
     let s = begin a in
@@ -61,13 +61,13 @@ returns-5 : tie.Need-returns-5
 returns-5 c places keys =
     let a = c .before .before .before .before .before .before in
     row-fits (token a places keys) (begin a .args .end) _ (candidate-is a places keys) (c .before .before .before .before .before .if1 .left)
-    (sym (c .if5 .taken) ∙ c .before .ends .ensures places keys)
+    (sym (c .if5 .taken) ∙ c .before .ends-with .ensures places keys)
 
 returns-6 : tie.Need-returns-6
 returns-6 c places keys =
     let a = c .before .before .before .before .before .before in
     no-fit (token a places keys) (begin a .args .end) _ (candidate-is a places keys) (c .before .before .before .before .before .if1 .left)
-    (sym (c .if5 .left) ∙ c .before .ends .ensures places keys)
+    (sym (c .if5 .left) ∙ c .before .ends-with .ensures places keys)
 
 pub production-spec : {M : Type 1} → statement M
 production-spec =
