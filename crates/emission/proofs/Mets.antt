@@ -18,11 +18,11 @@ use Rattle.semantics.specs.FromTokens.{Head, IdxHead, headForm, idxHeadForm}
 use Rattle.semantics.proofs.Machine.{oracle-length}
 use Rattle.semantics.specs.Records.{Records, keyOf, tokenAt, tokenOf}
 use Rattle.productions.specs.Before.{Whole, before}
-use Rattle.productions.specs.Ending.{Production, Row, blank, ending, kindAt, production, productionOf, productions, rowAt, rowFound, rows}
+use Rattle.productions.specs.Ending.{Production, Row, blank, ending, kindAt, lastRow, productionOf, productions, rowAt, rowFound, rows}
 use Rattle.emission.specs.Pieces.{Met, Part, Placed, bytesOf, lead, operandsAt, ownPiece, part, partOf, piece, placedPiece, sizeOf}
 use Rattle.emission.specs.declared.CommandAt.{CommandAt}
 use Rattle.productions.proofs.Tokens.{getD-before, length-before, recorded}
-use Rattle.productions.proofs.Endings.{production-sound}
+use Rattle.productions.proofs.Endings.{lastRow-sound}
 use Rattle.productions.proofs.Places.{At, neither, row-missing}
 
 -- the token at a place of a production's own
@@ -137,7 +137,7 @@ twin-some r start kind e f = go start e
 
 -- the piece that the tokens before a place end with
 module _ (r : Records) (end : ℕ) where
-  pub met-none : (k : ℕ) → k ≡ rowFound (production (before (tokenAt r) end)) → 29 ≤ k → 0 < end → Met r end (record { command = Command.Unknown; first = end - 1 })
+  pub met-none : (k : ℕ) → k ≡ rowFound (lastRow (before (tokenAt r) end)) → 29 ≤ k → 0 < end → Met r end (record { command = Command.Unknown; first = end - 1 })
   unfolding part
   met-none k e none h =
       let is : part (before (tokenAt r) end) ≡ record { piece = piece Command.Unknown []; width = 1 } = ap (partOf (before (tokenAt r) end)) (row-missing (before (tokenAt r) end) k e none) in
@@ -153,7 +153,7 @@ module _ (r : Records) (end : ℕ) where
 
   module _ (k start : ℕ) (at : At (tokenAt r) end k start) where
     split : before (tokenAt r) end ≡ ending (productionOf (before (tokenAt r) end) k) ++ before (tokenAt r) start
-    split = production-sound (before (tokenAt r) end) (recorded r end) k (before (tokenAt r) start) (at .is)
+    split = lastRow-sound (before (tokenAt r) end) (recorded r end) k (before (tokenAt r) start) (at .is)
 
     pub met-twin : k ≡ 1 → (kind : ℕ) → kind ≡ kindAt (before (tokenAt r) start) 0 → kind ≡ 4 → Met r end (record { command = Command.CurrInputIdx; first = start - 1 })
     unfolding part
@@ -257,8 +257,8 @@ module _ (r : Records) (end : ℕ) (p : CommandAt) (met : Met r end p) (few : en
       record {
         number = omega (arith, met .falls);
         oracle = λ e. let h = met .oracle e in (
-              omega (arith, h .0),
-              omega (arith, h .0, w .placed),
-              w .whole (p .first + lead (p .command) + 7) (omega (arith, h .0)) (h .1),
-            );
+          omega (arith, h .0),
+          omega (arith, h .0, w .placed),
+          w .whole (p .first + lead (p .command) + 7) (omega (arith, h .0)) (h .1),
+        );
       }

@@ -21,9 +21,9 @@ use Rattle.semantics.specs.Code.{code, exprCode, idxCode}
 use Rattle.semantics.specs.Token.{exprForm, form, idxForm}
 use Rattle.semantics.specs.FromTokens.{Head, IdxHead, headForm, idxHeadForm, lookupExpr}
 use Rattle.semantics.proofs.Canon.{canon, canonExpr}
-use Rattle.productions.specs.Ending.{Production, ending, ends, kindAt, production, productionOf, rowAt, rows}
+use Rattle.productions.specs.Ending.{Production, ending, ends, kindAt, lastRow, productionOf, rowAt, rows}
 use Rattle.emission.specs.Pieces.{Part, Piece, joined, ownPiece, part, partOf, piece, pieces, piecesAfter}
-use Rattle.productions.proofs.Endings.{production-ends, production-own}
+use Rattle.productions.proofs.Endings.{lastRow-ends, production-own}
 use Rattle.productions.proofs.Places.{ends-length}
 use Rattle.productions.proofs.Table.{widths}
 use Rattle.emission.proofs.Parts.{joined-append, joined-one, pieces-step}
@@ -47,7 +47,7 @@ own-step p r n apart =
     let ts : List Token = ending p ++ r in
     let o = production-own p r in
     let k = o .0 in
-    let h = production-ends ts k r (o .1) in
+    let h = lastRow-ends ts k r (o .1) in
     let w : ℕ = length (rowAt k .marks) in
     let low = widths k (h .row) .0 in
     let l = ends-length (rowAt k .marks) ts (h .marked) in
@@ -165,7 +165,7 @@ value-apart h n r e f = let q : h ≡ Head.lookup AmountList.Input = cc in n Amo
 
 -- `CurrInputIdx` has five tokens
 twin-part : (r : List Token) → part (reverse (exprForm Expr.CurrInputIdx) ++ r) ≡ record { piece = piece Command.CurrInputIdx []; width = 5 }
-unfolding part production rows ends exprForm bytesValue
+unfolding part lastRow rows ends exprForm bytesValue
 twin-part r = refl
 
 twin-pieces : (r : List Token) (n : ℕ) → pieces (length (exprForm Expr.CurrInputIdx) + n) (reverse (exprForm Expr.CurrInputIdx) ++ r) ≡ pieces n r ++ piece Command.CurrInputIdx [] ∷ []

@@ -17,7 +17,7 @@ use Rattle.semantics.specs.Oracle.{rule}
 use Rattle.semantics.specs.Records.{Records, keyOf, recordsOf, tokenAt}
 use Rattle.productions.specs.Before.{before}
 use Rattle.productions.specs.Noted.{Rows}
-use Rattle.productions.specs.Ending.{Production, kindAt, production, productionOf, rowAt}
+use Rattle.productions.specs.Ending.{Production, kindAt, lastRow, productionOf, rowAt}
 use Rattle.emission.specs.declared.Judged.{Judged}
 use Rattle.emission.specs.declared.CommandAt.{CommandAt}
 
@@ -69,7 +69,7 @@ partOf ts (found k r) =
     (record { piece = ownPiece (productionOf ts k); width = length (rowAt k .marks) })
 
 unfoldable pub part : List Token → Part
-part ts = partOf ts (production ts)
+part ts = partOf ts (lastRow ts)
 
 -- the pieces of the first n of tokens, the last token first; the next `skip` belong to a piece that was met
 unfoldable pub piecesAfter : ℕ → ℕ → List Token → List Piece

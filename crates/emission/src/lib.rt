@@ -88,7 +88,11 @@ fn last_command(kinds: &[u8], rows: &[u8; MAX_TOKENS], end: usize) -> CommandAt
 fn size(command: Command) -> usize
     ensures { λ r. ⌜ r ≡ sizeOf command ⌝ }
 {
-    if is_known(command) { width_of(command) + 1 } else { 0 }
+    if is_known(command) {
+        width_of(command) + 1
+    } else {
+        0
+    }
 }
 
 // What a command is to the oracle rule.

@@ -1,4 +1,4 @@
--- The row that tokens end with is that of the production whose own tokens they end with: `production-own`, `production-sound`. So the
+-- The row that tokens end with is that of the production whose own tokens they end with: `production-own`, `lastRow-sound`. So the
 -- definitions' heads are seen from it (`head-seen`, `idxHead-seen`, `comparison-seen`).
 use Prim.Native.Nat.{ℕ, zero, suc, _<_}
 use mathlib.Core.Bool.{Bool, true, false, cond, _&&_}
@@ -22,7 +22,7 @@ use Rattle.semantics.specs.FromTokens.{Found, Head, IdxHead, comparison, found,
 use Rattle.semantics.proofs.Find.{Reads, find-sound}
 use Rattle.semantics.proofs.Heads.{comparison-own, head-own, idxHead-own}
 use Rattle.semantics.proofs.Tests.{and-true}
-use Rattle.productions.specs.Ending.{Production, candidateOf, ending, ends, fits, production, productionOf, productions, Row, blank, rowAt, rows}
+use Rattle.productions.specs.Ending.{Production, candidateOf, ending, ends, fits, lastRow, productionOf, productions, Row, blank, rowAt, rows}
 use Rattle.productions.proofs.Tokens.{Recorded}
 
 -- the token that has a mark, as far as the mark leaves it open taken from another
@@ -91,9 +91,9 @@ pub record Ends (ts : List Token) (k : ℕ) (r : List Token) : Type 0 where
   pub marked : ends (rowAt k .marks) ts ≡ true
   pub rest : drop (length (rowAt k .marks)) ts ≡ r
 
-pub production-ends : (ts : List Token) (k : ℕ) (r : List Token) → production ts ≡ found k r → Ends ts k r
-unfolding production
-production-ends ts k r e = go (ltb (candidateOf ts) 29) (ends (rowAt (candidateOf ts) .marks) ts) refl refl e
+pub lastRow-ends : (ts : List Token) (k : ℕ) (r : List Token) → lastRow ts ≡ found k r → Ends ts k r
+unfolding lastRow
+lastRow-ends ts k r e = go (ltb (candidateOf ts) 29) (ends (rowAt (candidateOf ts) .marks) ts) refl refl e
   where
     go : (a b : Bool) → ltb (candidateOf ts) 29 ≡ a → ends (rowAt (candidateOf ts) .marks) ts ≡ b
         → cond (a && b) (found (candidateOf ts) (drop (length (rowAt (candidateOf ts) .marks)) ts)) nothing ≡ found k r → Ends ts k r
@@ -104,18 +104,18 @@ production-ends ts k r e = go (ltb (candidateOf ts) 29) (ends (rowAt (candidateO
     go true false p q f = let z : _≡_ {A = ℕ} 0 1 = cc in absurd (omega arith)
     go false b p q f = let z : _≡_ {A = ℕ} 0 1 = cc in absurd (omega arith)
 
-pub production-sound : (ts : List Token) → All Recorded ts → (k : ℕ) (r : List Token) → production ts ≡ found k r → ts ≡ ending (productionOf ts k) ++ r
-production-sound ts all k r e =
-    let h = production-ends ts k r e in
+pub lastRow-sound : (ts : List Token) → All Recorded ts → (k : ℕ) (r : List Token) → lastRow ts ≡ found k r → ts ≡ ending (productionOf ts k) ++ r
+lastRow-sound ts all k r e =
+    let h = lastRow-ends ts k r e in
     ends-sound (rowAt k .marks) ts all (h .marked)
     ∙ ap (λ (l : List Token). l ++ drop (length (rowAt k .marks)) ts) (row-refit ts k (h .row)) ∙ ap (λ (l : List Token). ending (productionOf ts k) ++ l) (h .rest)
 
 -- and a production's own tokens are found, in the row that is its own
 abbrev Own : Production → List Token → Type 0
-Own p r = (k : ℕ) × (production (ending p ++ r) ≡ found k r) × (productionOf (ending p ++ r) k ≡ p)
+Own p r = (k : ℕ) × (lastRow (ending p ++ r) ≡ found k r) × (productionOf (ending p ++ r) k ≡ p)
 
 pub production-own : (p : Production) (r : List Token) → Own p r
-unfolding production ending headForm idxHeadForm exprForm rows ends bytesValue
+unfolding lastRow ending headForm idxHeadForm exprForm rows ends bytesValue
 production-own (Production.value (Head.const n)) r = (0, refl, refl)
 production-own (Production.value (Head.lookup AmountList.Input)) r = (1, refl, refl)
 production-own (Production.value (Head.lookup AmountList.Output)) r = (2, refl, refl)
@@ -159,14 +159,14 @@ module _ {H : Type 0} (form : H → List Token) (read : List Token → Found H) 
     (is : (h : H) → ending (make h) ≡ form h) (own : (h : H) (r : List Token) → read (form h ++ r) ≡ found h r)
     (sound : (ts : List Token) → Reads (λ h r. form h ++ r) (read ts) ts)
     (made : (h : H) → pick (make h) ≡ some h) (makes : (p : Production) (h : H) → pick p ≡ some h → p ≡ make h) where
-  all-seen : (ts : List Token) → All Recorded ts → read ts ≡ seen pick ts (production ts)
-  all-seen ts all = go (read ts) (sound ts) refl (production ts) refl
+  all-seen : (ts : List Token) → All Recorded ts → read ts ≡ seen pick ts (lastRow ts)
+  all-seen ts all = go (read ts) (sound ts) refl (lastRow ts) refl
     where
-      go : (g : Found H) → Reads (λ h r. form h ++ r) g ts → read ts ≡ g → (f : Found ℕ) → production ts ≡ f → g ≡ seen pick ts f
+      go : (g : Found H) → Reads (λ h r. form h ++ r) g ts → read ts ≡ g → (f : Found ℕ) → lastRow ts ≡ f → g ≡ seen pick ts f
       go (found h s) u p f q =
           let o = production-own (make h) s in
           let at : ts ≡ ending (make h) ++ s = u ∙ ap (λ (l : List Token). l ++ s) (sym (is h)) in
-          let t : production ts ≡ found (o .0) s = ap production at ∙ o .1 in
+          let t : lastRow ts ≡ found (o .0) s = ap lastRow at ∙ o .1 in
           let w : productionOf ts (o .0) ≡ make h = ap (λ (l : List Token). productionOf l (o .0)) at ∙ o .2 in
           rw (sym q ∙ t, w, made h)
       go nothing u p nothing q = refl
@@ -176,7 +176,7 @@ module _ {H : Type 0} (form : H → List Token) (read : List Token → Found H) 
           none-seen none w = refl
           none-seen (some h) w =
               let at : ts ≡ form h ++ r =
-              production-sound ts all k r q ∙ ap (λ (x : Production). ending x ++ r) (makes (productionOf ts k) h w) ∙ ap (λ (l : List Token). l ++ r) (is h) in
+              lastRow-sound ts all k r q ∙ ap (λ (x : Production). ending x ++ r) (makes (productionOf ts k) h w) ∙ ap (λ (l : List Token). l ++ r) (is h) in
               sym p ∙ ap read at ∙ own h r
 
 abbrev pub pickValue : Production → Option Head
@@ -221,17 +221,17 @@ comparison-makes (Production.index g) o e = cc
 comparison-makes Production.between o e = cc
 comparison-makes (Production.comparison c) o e = cc
 
-pub head-seen : (ts : List Token) → All Recorded ts → head ts ≡ seen pickValue ts (production ts)
+pub head-seen : (ts : List Token) → All Recorded ts → head ts ≡ seen pickValue ts (lastRow ts)
 unfolding ending head
 head-seen = all-seen headForm head Production.value pickValue (λ h. refl) head-own (λ ts. find-sound headForm (heads ts) ts) (λ h. refl) value-makes
 
-pub idxHead-seen : (ts : List Token) → All Recorded ts → idxHead ts ≡ seen pickIndex ts (production ts)
+pub idxHead-seen : (ts : List Token) → All Recorded ts → idxHead ts ≡ seen pickIndex ts (lastRow ts)
 unfolding ending idxHead
 idxHead-seen =
     all-seen idxHeadForm idxHead Production.index pickIndex (λ h. refl) idxHead-own
     (λ ts. find-sound idxHeadForm (IdxHead.const (numberAt ts 0) ∷ IdxHead.curr ∷ map IdxHead.oper idxOps) ts) (λ h. refl) index-makes
 
-pub comparison-seen : (ts : List Token) → All Recorded ts → comparison ts ≡ seen pickComparison ts (production ts)
+pub comparison-seen : (ts : List Token) → All Recorded ts → comparison ts ≡ seen pickComparison ts (lastRow ts)
 unfolding ending comparison
 comparison-seen =
     let form : CmpOp → List Token = λ o. reverse (cmpRow o .form) in

@@ -14,9 +14,9 @@ use Rattle.semantics.specs.Operations.{Token}
 use Rattle.semantics.specs.Records.{Records, tokenAt}
 use Rattle.semantics.specs.FromTokens.{Found, found, nothing}
 use Rattle.productions.specs.Before.{before}
-use Rattle.productions.specs.Ending.{Row, blank, ends, production, rowAt, rowFound, rows}
+use Rattle.productions.specs.Ending.{Row, blank, ends, lastRow, rowAt, rowFound, rows}
 use Rattle.productions.specs.Noted.{Fitting, Rows, rowIn}
-use Rattle.productions.proofs.Endings.{production-ends}
+use Rattle.productions.proofs.Endings.{lastRow-ends}
 use Rattle.productions.proofs.Places.{At, row-found}
 use Rattle.productions.proofs.Table.{widths}
 
@@ -36,16 +36,16 @@ fitting-fewer rs last n p h = record { few = omega (arith, p .few); fitting = λ
 pub rows-fit : (r : Records) (rs : List ℕ) (last : ℕ) → last ≤ maxTokens → Rows r rs last → Fitting rs last
 rows-fit r rs last few p = record { few = few; fitting = λ i l. fit i (rowIn rs i) (p .noted i l) (ltb (rowIn rs i) 29) refl }
   where
-    fit : (i k : ℕ) → k ≡ rowFound (production (before (tokenAt r) i)) → (b : Bool) → ltb k 29 ≡ b → length (rowAt k .marks) ≤ i
+    fit : (i k : ℕ) → k ≡ rowFound (lastRow (before (tokenAt r) i)) → (b : Bool) → ltb k 29 ≡ b → length (rowAt k .marks) ≤ i
     fit i k e true q = row-found (tokenAt r) i k (length (rowAt k .marks)) e (ltb-true k 29 q) refl .0
     fit i k e false q = omega (arith, beyond-rows k (ltb-false k 29 q))
 
 -- rows are noted one by one
 pub rows-none : (r : Records) (rs : List ℕ) → Rows r rs 0
-unfolding before production rows ends bytesValue rowIn
+unfolding before lastRow rows ends bytesValue rowIn
 rows-none r rs = record { noted = λ i h. let z : i ≡ 0 = omega arith in rw z refl }
 
-pub rows-more : (r : Records) (rs : List ℕ) (i k : ℕ) → Rows r rs i → i < length rs → k ≡ rowFound (production (before (tokenAt r) (i + 1))) → Rows r (set rs i k) (i + 1)
+pub rows-more : (r : Records) (rs : List ℕ) (i k : ℕ) → Rows r rs i → i < length rs → k ≡ rowFound (lastRow (before (tokenAt r) (i + 1))) → Rows r (set rs i k) (i + 1)
 unfolding rowIn
 rows-more r rs i k p h e = record { noted = λ j l. go j l (eqb j 0) refl (eqb j (i + 1)) refl }
   where
@@ -55,22 +55,22 @@ rows-more r rs i k p h e = record { noted = λ j l. go j l (eqb j 0) refl (eqb j
     below : (j : ℕ) → j ≤ i + 1 → (j ≡ i + 1 → ⊥) → j ≤ i
     below j l n = omega (arith, n)
 
-    go : (j : ℕ) → j ≤ i + 1 → (a : Bool) → eqb j 0 ≡ a → (b : Bool) → eqb j (i + 1) ≡ b → rowIn (set rs i k) j ≡ rowFound (production (before (tokenAt r) j))
+    go : (j : ℕ) → j ≤ i + 1 → (a : Bool) → eqb j 0 ≡ a → (b : Bool) → eqb j (i + 1) ≡ b → rowIn (set rs i k) j ≡ rowFound (lastRow (before (tokenAt r) j))
     go j l true q b f = rw q (rw q at (p .noted j (omega (arith, eqb-true j 0 q))))
     go j l false q true f =
         let is : j ≡ i + 1 = eqb-true j (i + 1) f in
         let one : j - 1 ≡ i = omega arith in
-        rw (q, one) (getD-set-same rs i k 0 h ∙ e ∙ ap (λ (n : ℕ). rowFound (production (before (tokenAt r) n))) (sym is))
+        rw (q, one) (getD-set-same rs i k 0 h ∙ e ∙ ap (λ (n : ℕ). rowFound (lastRow (before (tokenAt r) n))) (sym is))
     go j l false q false f =
         let n = eqb-false j (i + 1) f in
         let m = eqb-false j 0 q in
         rw (q, getD-set-other rs i (j - 1) k 0 λ z. n (omega (arith, z, one-more j m))) (rw q at (p .noted j (below j l n)))
 
-pub row-low : (ts : List Token) → rowFound (production ts) ≤ 29
-row-low ts = go (production ts) refl
+pub row-low : (ts : List Token) → rowFound (lastRow ts) ≤ 29
+row-low ts = go (lastRow ts) refl
   where
-    go : (g : Found ℕ) → production ts ≡ g → rowFound g ≤ 29
-    go (found k r) e = omega (arith, production-ends ts k r e .row)
+    go : (g : Found ℕ) → lastRow ts ≡ g → rowFound g ≤ 29
+    go (found k r) e = omega (arith, lastRow-ends ts k r e .row)
     go nothing e = omega arith
 
 -- the own tokens of a row that is noted

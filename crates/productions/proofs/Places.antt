@@ -15,10 +15,10 @@ use Rattle.semantics.specs.FromTokens.{Found, found, nothing}
 use Rattle.semantics.specs.Records.{Records, recordsOf, tokenAt}
 use Rattle.semantics.proofs.Tests.{and-true}
 use Rattle.productions.specs.Before.{Numbered, before, tokensBefore}
-use Rattle.productions.specs.Ending.{Row, backwards, blank, candidateOf, ends, fits, kindAt, markOf, production, rowAt, rowFound, rows, rowsBefore}
+use Rattle.productions.specs.Ending.{Row, blank, candidateOf, ends, fits, kindAt, lastRow, markOf, rowAt, rowFound, rows, rowsBefore}
 use Rattle.productions.proofs.Tokens.{before-step, drop-before, getD-before, getD-beyond, length-before}
-use Rattle.productions.proofs.Endings.{production-ends}
-use Rattle.productions.proofs.Table.{all, all-at, widths}
+use Rattle.productions.proofs.Endings.{lastRow-ends}
+use Rattle.productions.proofs.Table.{all, all-at, backwards, widths}
 
 -- a Num's number alone is looked at
 fits-number : (m kind number : ℕ) → fits m kind (cond (eqb kind 1 || eqb kind 2) number 0) ≡ fits m kind number
@@ -226,20 +226,20 @@ module _ (r : Records) (end : ℕ) where
 
 -- the candidate's number is k: it is no row, its marks do not fit, or they do
 module _ (t : ℕ → Token) (end k : ℕ) (is : k ≡ candidateOf (before t end)) where
-  pub no-row : 29 ≤ k → 29 ≡ rowFound (production (before t end))
-  unfolding production
+  pub no-row : 29 ≤ k → 29 ≡ rowFound (lastRow (before t end))
+  unfolding lastRow
   no-row h = rw (← is, le-ltb k 29 h)
 
-  pub no-fit : k < 29 → false ≡ ends (rowAt k .marks) (before t end) → 29 ≡ rowFound (production (before t end))
-  unfolding production
+  pub no-fit : k < 29 → false ≡ ends (rowAt k .marks) (before t end) → 29 ≡ rowFound (lastRow (before t end))
+  unfolding lastRow
   no-fit h e = rw (← is, lt-ltb k 29 h, ← e)
 
-  pub row-fits : k < 29 → true ≡ ends (rowAt k .marks) (before t end) → k ≡ rowFound (production (before t end))
-  unfolding production
+  pub row-fits : k < 29 → true ≡ ends (rowAt k .marks) (before t end) → k ≡ rowFound (lastRow (before t end))
+  unfolding lastRow
   row-fits h e = rw (← is, lt-ltb k 29 h, ← e)
 
   pub row-single : k < 29 → kindAt (before t end) 0 < 36 → kindAt (before t end) 3 < 36 → (w : ℕ) → w ≡ length (rowAt k .marks) → w ≡ 1
-      → k ≡ rowFound (production (before t end))
+      → k ≡ rowFound (lastRow (before t end))
   row-single h last fourth w wide one = row-fits h (sym (single-ends (before t end) k is h (sym wide ∙ one) last fourth))
 
   module _ (h : k < 29) (fourth : kindAt (before t end) 3 < 36) (w : ℕ) (wide : w ≡ length (rowAt k .marks)) (four : w ≡ 4)
@@ -248,25 +248,25 @@ module _ (t : ℕ → Token) (end k : ℕ) (is : k ≡ candidateOf (before t end
     four-is =
         checked ∙ ap (ends (14 ∷ 36 ∷ [])) (sym (drop-before t 1 end)) ∙ sym (four-end (before t end) k is h (sym wide ∙ four) fourth)
 
-    pub four-no : b ≡ false → 29 ≡ rowFound (production (before t end))
+    pub four-no : b ≡ false → 29 ≡ rowFound (lastRow (before t end))
     four-no e = no-fit h (sym e ∙ four-is)
 
-    pub row-four : b ≡ true → k ≡ rowFound (production (before t end))
+    pub row-four : b ≡ true → k ≡ rowFound (lastRow (before t end))
     row-four e = row-fits h (sym e ∙ four-is)
 
 -- what the code knows of a row that was found
 pub record At (t : ℕ → Token) (end k start : ℕ) : Type 0 where
-  pub is : production (before t end) ≡ found k (before t start)
+  pub is : lastRow (before t end) ≡ found k (before t start)
   pub row : k < 29
   pub width : start + length (rowAt k .marks) ≡ end
   pub low : start < end
 
-pub row-found : (t : ℕ → Token) (end k w : ℕ) → k ≡ rowFound (production (before t end)) → k < 29 → w ≡ length (rowAt k .marks) → (w ≤ end) × At t end k (end - w)
-row-found t end k w e low wide = go (production (before t end)) refl e
+pub row-found : (t : ℕ → Token) (end k w : ℕ) → k ≡ rowFound (lastRow (before t end)) → k < 29 → w ≡ length (rowAt k .marks) → (w ≤ end) × At t end k (end - w)
+row-found t end k w e low wide = go (lastRow (before t end)) refl e
   where
-    go : (g : Found ℕ) → production (before t end) ≡ g → k ≡ rowFound g → (w ≤ end) × At t end k (end - w)
+    go : (g : Found ℕ) → lastRow (before t end) ≡ g → k ≡ rowFound g → (w ≤ end) × At t end k (end - w)
     go (found j r) q f =
-        let h = production-ends (before t end) k r (q ∙ ap (λ (n : ℕ). found n r) (sym f)) in
+        let h = lastRow-ends (before t end) k r (q ∙ ap (λ (n : ℕ). found n r) (sym f)) in
         let one = widths k low .0 in
         let l = ends-length (rowAt k .marks) (before t end) (h .marked) in
         let b = length-before t end in
@@ -285,9 +285,9 @@ row-found t end k w e low wide = go (production (before t end)) refl e
 pub fewer : (kinds numbers : List ℕ) (end n : ℕ) → Numbered kinds numbers end → n ≤ end → Numbered kinds numbers n
 fewer kinds numbers end n p h = record { known = p .known; paired = p .paired; within = omega (arith, p .within) }
 
-pub row-missing : (ts : List Token) (k : ℕ) → k ≡ rowFound (production ts) → 29 ≤ k → production ts ≡ nothing
-row-missing ts k e h = go (production ts) refl e
+pub row-missing : (ts : List Token) (k : ℕ) → k ≡ rowFound (lastRow ts) → 29 ≤ k → lastRow ts ≡ nothing
+row-missing ts k e h = go (lastRow ts) refl e
   where
-    go : (g : Found ℕ) → production ts ≡ g → k ≡ rowFound g → g ≡ nothing
-    go (found j r) q f = let l = production-ends ts j r q .row in absurd (omega arith)
+    go : (g : Found ℕ) → lastRow ts ≡ g → k ≡ rowFound g → g ≡ nothing
+    go (found j r) q f = let l = lastRow-ends ts j r q .row in absurd (omega arith)
     go nothing q f = refl

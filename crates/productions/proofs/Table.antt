@@ -2,7 +2,7 @@
 use Prim.Native.Nat.{ℕ, zero, suc, _+_, _-_, _<_, _≤_}
 use mathlib.Core.Bool.{Bool, true, false, not, _&&_, _||_}
 use mathlib.Core.Path.{_≡_, refl, sym, ap, _∙_}
-use mathlib.Core.List.{List, [], _∷_, map}
+use mathlib.Core.List.{List, [], _∷_, map, reverse}
 use native.Mathlib.Omega.{arith}
 use borrow.Author.Tests.{eqb-true, leb-true, lt-ltb, ltb-false, ltb-true, ne-eqb}
 use lib.Dec.{eqb, leb, ltb}
@@ -15,7 +15,7 @@ use Rattle.semantics.proofs.Tests.{and-true}
 use Rattle.slices.specs.Bytes.{bytesValue}
 use Rattle.token_table.specs.TokenRows.{tokenRow}
 use Rattle.token_table.specs.declared.TokenRow.{TokenRow}
-use Rattle.productions.specs.Ending.{Production, Row, backwards, blank, productionOf, productions, rowAt, rows, rowsBefore}
+use Rattle.productions.specs.Ending.{Production, Row, blank, markOf, productionOf, productions, rowAt, rows, rowsBefore}
 use Rattle.productions.proofs.Shapes.{IndexShape, ValueShape, indexShape, valueShape}
 use Rattle.productions.proofs.Endings.{isComparison}
 
@@ -38,6 +38,10 @@ widths k h =
     let e = and-true (leb 1 (length (rowAt k .marks))) (leb (length (rowAt k .marks)) 13) (all-at f rows blank refl k h) in
     (leb-true 1 (length (rowAt k .marks)) (e .0), leb-true (length (rowAt k .marks)) 13 (e .1))
 
+-- the marks of the first n of a command's kinds, the last one first, in a row of several tokens
+abbrev pub backwards : List ℕ → ℕ → List ℕ
+backwards kinds n = map markOf (reverse (take n kinds))
+
 -- a row of several tokens has the marks of its command's kinds, read backwards; no kind is the mark of a Num of 1
 pub record OwnKinds (k : ℕ) (own : TokenRow) : Type 0 where
   pub marks : rowAt k .marks ≡ backwards (own .kinds) (own .count)
@@ -58,8 +62,8 @@ own-kinds k h wide =
     let own : TokenRow = tokenRow (rowAt k .command) in
     let ms : List ℕ = rowAt k .marks in
     let f : Row → Bool = λ r.
-        not (ltb 1 (length (r .marks))) || (sameBytes (r .marks) (backwards (tokenRow (r .command) .kinds) (tokenRow (r .command) .count)) && (eqb (length (r .marks)) (tokenRow (r .command) .count)
-        && (eqb (length (tokenRow (r .command) .kinds)) 14 && all (λ k. ltb k 36) (tokenRow (r .command) .kinds)))) in
+    not (ltb 1 (length (r .marks))) || (sameBytes (r .marks) (backwards (tokenRow (r .command) .kinds) (tokenRow (r .command) .count)) && (eqb (length (r .marks)) (tokenRow (r .command) .count)
+    && (eqb (length (tokenRow (r .command) .kinds)) 14 && all (λ k. ltb k 36) (tokenRow (r .command) .kinds)))) in
     let test = rw (lt-ltb 1 (length ms) wide) at (all-at f rows blank refl k h) in
     let a = and-true (sameBytes ms (backwards (own .kinds) (own .count))) _ test in
     let b = and-true (eqb (length ms) (own .count)) _ (a .1) in

@@ -96,12 +96,9 @@ indexDivRow = 22
 abbrev pub rowAt : ℕ → Row
 rowAt k = getD rows k blank
 
--- the marks of the first n of a command's kinds, the last one first, in a row of several tokens: a Num there is one of 1
+-- the mark of a kind in a row of several tokens: a Num there is one of 1
 abbrev pub markOf : ℕ → ℕ
 markOf kind = cond (eqb kind 1) numOne kind
-
-abbrev pub backwards : List ℕ → ℕ → List ℕ
-backwards kinds n = map markOf (reverse (take n kinds))
 
 -- whether a token has a mark
 abbrev pub fits : ℕ → ℕ → ℕ → Bool
@@ -132,8 +129,8 @@ abbrev pub candidateOf : List Token → ℕ
 candidateOf ts = candidate (kindAt ts 0) (kindAt ts 1) (kindAt ts 3)
 
 -- the row that tokens end with
-unfoldable pub production : List Token → Found ℕ
-production ts =
+unfoldable pub lastRow : List Token → Found ℕ
+lastRow ts =
     let k = candidateOf ts in
     cond (ltb k rowCount && ends (rowAt k .marks) ts) (found k (drop (length (rowAt k .marks)) ts)) nothing
 

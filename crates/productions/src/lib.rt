@@ -15,7 +15,7 @@ ghost use Rattle.semantics.specs.Code.{maxTokens};
 ghost use Rattle.semantics.specs.Records.{recordsOf};
 ghost use Rattle.productions.specs.Before.{Numbered, tokensBefore};
 ghost use Rattle.productions.specs.Noted.{Rows, rowIn};
-ghost use Rattle.productions.specs.Ending.{candidateOf, ends, equalKind, fits, kindAt, markOf, numOne, production, rowAt, rowCount, rowFound, rows, rowsBefore, valueCount};
+ghost use Rattle.productions.specs.Ending.{candidateOf, ends, equalKind, fits, kindAt, lastRow, markOf, numOne, rowAt, rowCount, rowFound, rows, rowsBefore, valueCount};
 
 // Kinds of tokens.
 const NUM: u8 = 1;
@@ -312,10 +312,10 @@ fn ends_with_one_equal(kinds: &[u8], numbers: &[u64], end: usize) -> bool
 
 // The row that the tokens before `end` end with, or the number of rows. The kind of the last one tells a row of one token; rows of four tokens differ in the
 // first of them alone.
-fn production(kinds: &[u8], numbers: &[u64], end: usize) -> usize
+fn last_row(kinds: &[u8], numbers: &[u64], end: usize) -> usize
     requires { ⌜ Numbered (now kinds) (now numbers) end ⌝ }
     ensures { λ r. ⌜ ((places keys : List ℕ) →
-        r ≡ rowFound (production (tokensBefore (now (kinds .entry)) (now (numbers .entry)) places keys end))) ⌝ }
+        r ≡ rowFound (lastRow (tokensBefore (now (kinds .entry)) (now (numbers .entry)) places keys end))) ⌝ }
 {
     let row = candidate(kinds, end);
     if ROWS <= row {
@@ -346,7 +346,7 @@ pub fn find_rows(kinds: &[u8], numbers: &[u64], rows: &mut [u8])
 {
     let mut i = 0;
     while i < kinds.len() {
-        rows[i] = production(kinds, numbers, i + 1) as u8;
+        rows[i] = last_row(kinds, numbers, i + 1) as u8;
         i += 1;
     }
 }

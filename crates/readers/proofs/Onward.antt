@@ -12,11 +12,11 @@ use Rattle.semantics.specs.Records.{Records, tokenAt}
 use Rattle.semantics.specs.FromTokens.{Found, exprFromTokens, found, fromTokens, idxBetween, idxFromTokens, nothing}
 use Rattle.semantics.proofs.Find.{Reads, find-sound}
 use Rattle.productions.specs.Before.{before}
-use Rattle.productions.specs.Ending.{Production, ending, ends, production, productionOf, rowFound, rows}
+use Rattle.productions.specs.Ending.{Production, ending, ends, lastRow, productionOf, rowFound, rows}
 use Rattle.productions.proofs.Shapes.{IndexShape, ValueShape, indexShape, valueShape}
 use Rattle.productions.proofs.Tokens.{recorded}
 use Rattle.productions.proofs.Places.{At}
-use Rattle.productions.proofs.Endings.{isComparison, production-sound}
+use Rattle.productions.proofs.Endings.{isComparison, lastRow-sound}
 use Rattle.productions.proofs.Table.{binaries, comparisons, converteds, first-terminal, index-terminals, last-terminals, lookups, no-comparisons, no-indexes, no-more-indexes, no-more-rows, no-values, plains, unaries}
 use Rattle.readers.specs.declared.Reading.{Reading}
 use Rattle.readers.specs.Readings.{readingOf}
@@ -34,8 +34,8 @@ values (suc n) ts = goOn (exprFromTokens ts) (values n)
 -- a row that is none of the reader's
 module _ (seen : List Token → Found ℕ → Reading) (ts : List Token) (k : ℕ)
     (found-by : (r : List Token) → seen ts (found k r) ≡ Reading.Nothing) (none-by : seen ts nothing ≡ Reading.Nothing) where
-  not-seen : k ≡ rowFound (production ts) → seen ts (production ts) ≡ Reading.Nothing
-  not-seen e = go (production ts) e
+  not-seen : k ≡ rowFound (lastRow ts) → seen ts (lastRow ts) ≡ Reading.Nothing
+  not-seen e = go (lastRow ts) e
     where
       go : (g : Found ℕ) → k ≡ rowFound g → seen ts g ≡ Reading.Nothing
       go (found j r) f = ap (λ (n : ℕ). seen ts (found n r)) (sym f) ∙ found-by r
@@ -46,20 +46,20 @@ between-is : (ts : List Token) (f : List Token → Reading) → goOn (idxBetween
 unfolding ending
 between-is ts f = refl
 
-between-own : (r : List Token) → rowFound (production (ending Production.between ++ r)) ≡ 23
-unfolding production ending rows ends bytesValue
+between-own : (r : List Token) → rowFound (lastRow (ending Production.between ++ r)) ≡ 23
+unfolding lastRow ending rows ends bytesValue
 between-own r = refl
 
-between-not : (ts : List Token) (k : ℕ) → k ≡ rowFound (production ts) → (k ≡ 23 → ⊥) → (f : List Token → Reading) → goOn (idxBetween IdxOp.Mul ts) f ≡ Reading.Nothing
+between-not : (ts : List Token) (k : ℕ) → k ≡ rowFound (lastRow ts) → (k ≡ 23 → ⊥) → (f : List Token → Reading) → goOn (idxBetween IdxOp.Mul ts) f ≡ Reading.Nothing
 unfolding ending
 between-not ts k e n f = go (idxBetween IdxOp.Mul ts) (find-sound (λ _. reverse (idxRow IdxOp.Mul .between)) (tt {0} ∷ []) ts)
   where
     go : (g : Found (Unit {0})) → Reads (λ _ r. reverse (idxRow IdxOp.Mul .between) ++ r) g ts → goOn g f ≡ Reading.Nothing
-    go (found u r) s = absurd (n (e ∙ ap (λ (l : List Token). rowFound (production l)) s ∙ between-own r))
+    go (found u r) s = absurd (n (e ∙ ap (λ (l : List Token). rowFound (lastRow l)) s ∙ between-own r))
     go nothing s = refl
 
 -- index expressions
-module _ (r : Records) (end k : ℕ) (row : k ≡ rowFound (production (before (tokenAt r) end))) where
+module _ (r : Records) (end k : ℕ) (row : k ≡ rowFound (lastRow (before (tokenAt r) end))) where
   index-no : indexShape (productionOf (before (tokenAt r) end) k) ≡ IndexShape.NoIndex → (n : ℕ) → 0 < n → Reading.Nothing ≡ indexes n (before (tokenAt r) end)
   index-no e zero h = absurd (omega arith)
   index-no e (suc n) h =
@@ -97,7 +97,7 @@ module _ (r : Records) (end k start : ℕ) (at : At (tokenAt r) end k start) whe
     converted-none e zero p = absurd (omega arith)
     converted-none e (suc n) p = sym (converted (indexes n) ∙ no-reading (idxFromTokens (before (tokenAt r) start)) _ (sym e ∙ right))
 
-    module _ (middle : ℕ) (there : x ≡ Reading.Read middle) (j : ℕ) (row : j ≡ rowFound (production (before (tokenAt r) middle))) where
+    module _ (middle : ℕ) (there : x ≡ Reading.Read middle) (j : ℕ) (row : j ≡ rowFound (lastRow (before (tokenAt r) middle))) where
       pub unconverted : (j ≡ 23 → ⊥) → (n : ℕ) → 0 < n → Reading.Nothing ≡ indexes n (before (tokenAt r) end)
       unconverted e zero p = absurd (omega arith)
       unconverted e (suc n) p =
@@ -107,13 +107,13 @@ module _ (r : Records) (end k start : ℕ) (at : At (tokenAt r) end k start) whe
       converted-left begin b zero p = absurd (omega arith)
       converted-left begin b (suc n) p =
           let ts : List Token = before (tokenAt r) middle in
-          let is : ts ≡ ending Production.between ++ before (tokenAt r) begin = production-sound ts (recorded r middle) 23 _ (b .is) in
+          let is : ts ≡ ending Production.between ++ before (tokenAt r) begin = lastRow-sound ts (recorded r middle) 23 _ (b .is) in
           let go : List Token → Reading = λ r₂. goOn (idxFromTokens r₂) (indexes n) in
           converted (indexes n) ∙ index-on (tokenAt r) start middle (sym there ∙ right) _
           ∙ ap (λ (l : List Token). goOn (idxBetween IdxOp.Mul l) go) is ∙ between-is (before (tokenAt r) begin) go
 
 -- value expressions
-module _ (r : Records) (end k : ℕ) (row : k ≡ rowFound (production (before (tokenAt r) end))) where
+module _ (r : Records) (end k : ℕ) (row : k ≡ rowFound (lastRow (before (tokenAt r) end))) where
   pub value-beyond : 17 ≤ k → (n : ℕ) → 0 < n → Reading.Nothing ≡ values n (before (tokenAt r) end)
   value-beyond h zero p = absurd (omega arith)
   value-beyond h (suc n) p =
@@ -172,7 +172,7 @@ module _ (r : Records) (end k start : ℕ) (at : At (tokenAt r) end k start) whe
         value-by ValueShape.Binary (binaries (before (tokenAt r) end) k l h) (values n) ∙ value-on (tokenAt r) start middle (sym there ∙ right) _
 
 -- conditions
-module _ (r : Records) (end k : ℕ) (row : k ≡ rowFound (production (before (tokenAt r) end))) where
+module _ (r : Records) (end k : ℕ) (row : k ≡ rowFound (lastRow (before (tokenAt r) end))) where
   condition-no : isComparison (productionOf (before (tokenAt r) end) k) ≡ false → Reading.Nothing ≡ readingOf (fromTokens (before (tokenAt r) end))
   condition-no e =
       let ts : List Token = before (tokenAt r) end in

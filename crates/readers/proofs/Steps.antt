@@ -16,7 +16,7 @@ use Rattle.semantics.specs.FromTokens.{Found, Head, IdxHead, andThen, compariso
 use Rattle.semantics.proofs.Find.{Reader, Reads}
 use Rattle.semantics.proofs.FromTokens.{expr-reader, expr-step, idx-reader, idx-step}
 use Rattle.productions.specs.Before.{before}
-use Rattle.productions.specs.Ending.{Production, production, productionOf}
+use Rattle.productions.specs.Ending.{Production, lastRow, productionOf}
 use Rattle.productions.proofs.Shapes.{IndexShape, ValueShape, indexShape, valueShape}
 use Rattle.readers.specs.Readings.{readingOf}
 use Rattle.readers.specs.declared.Reading.{Reading}
@@ -81,8 +81,8 @@ abbrev pub indexSeen : (List Token → Reading) → List Token → Found ℕ →
 indexSeen f ts (found k r) = indexBy (indexShape (productionOf ts k)) r f
 indexSeen f ts nothing = Reading.Nothing
 
-pub index-step : (ts : List Token) → All Recorded ts → (f : List Token → Reading) → goOn (idxFromTokens ts) f ≡ indexSeen f ts (production ts)
-index-step ts all f = rw (idx-step ts, idxHead-seen ts all) (go (production ts))
+pub index-step : (ts : List Token) → All Recorded ts → (f : List Token → Reading) → goOn (idxFromTokens ts) f ≡ indexSeen f ts (lastRow ts)
+index-step ts all f = rw (idx-step ts, idxHead-seen ts all) (go (lastRow ts))
   where
     go : (g : Found ℕ) → goOn (idxOperands idxFromTokens (seen pickIndex ts g)) f ≡ indexSeen f ts g
     go (found k r) = index-shaped (productionOf ts k) r f
@@ -105,8 +105,8 @@ abbrev pub valueSeen : (List Token → Reading) → List Token → Found ℕ →
 valueSeen f ts (found k r) = valueBy (valueShape (productionOf ts k)) r f
 valueSeen f ts nothing = Reading.Nothing
 
-pub value-step : (ts : List Token) → All Recorded ts → (f : List Token → Reading) → goOn (exprFromTokens ts) f ≡ valueSeen f ts (production ts)
-value-step ts all f = rw (expr-step ts, head-seen ts all) (go (production ts))
+pub value-step : (ts : List Token) → All Recorded ts → (f : List Token → Reading) → goOn (exprFromTokens ts) f ≡ valueSeen f ts (lastRow ts)
+value-step ts all f = rw (expr-step ts, head-seen ts all) (go (lastRow ts))
   where
     go : (g : Found ℕ) → goOn (operands exprFromTokens (seen pickValue ts g)) f ≡ valueSeen f ts g
     go (found k r) = value-shaped (productionOf ts k) r f
@@ -121,9 +121,9 @@ abbrev pub conditionSeen : List Token → Found ℕ → Reading
 conditionSeen ts (found k r) = conditionBy (isComparison (productionOf ts k)) r
 conditionSeen ts nothing = Reading.Nothing
 
-pub condition-step : (ts : List Token) → All Recorded ts → readingOf (fromTokens ts) ≡ conditionSeen ts (production ts)
+pub condition-step : (ts : List Token) → All Recorded ts → readingOf (fromTokens ts) ≡ conditionSeen ts (lastRow ts)
 unfolding fromTokens
-condition-step ts all = rw (comparison-seen ts all) (reading-on (andThen (seen pickComparison ts (production ts)) after) ∙ go (production ts))
+condition-step ts all = rw (comparison-seen ts all) (reading-on (andThen (seen pickComparison ts (lastRow ts)) after) ∙ go (lastRow ts))
   where
     after : CmpOp → List Token → Found Arith
     after o r = andThen (exprFromTokens r) λ y r₁. andThen (exprFromTokens r₁) λ x r₂. found (Arith.Compare o x y) r₂

@@ -1,5 +1,5 @@
-// The tokens of each command: the one table that Write goes by.
-// `Command::Unknown` stands in it for completeness: Check has turned down code that has it.
+// The tokens of each command: the one table that Write goes by, and that Decode reads backwards.
+// `Command::Unknown` stands in it for completeness: Check has turned down code that has it, and Decode compares no tokens with it.
 use semantics::AmountList;
 use semantics::BinOp;
 use semantics::CmpOp;

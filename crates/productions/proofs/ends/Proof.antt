@@ -9,8 +9,8 @@ use lib.ListN.{length, getD}
 use Rattle.semantics.specs.Records.{Records, recordsOf, tokenAt}
 use Rattle.token_table.specs.TokenRows.{tokenRow}
 use Rattle.productions.specs.Before.{before, tokensBefore}
-use Rattle.productions.specs.Ending.{backwards, ends, rowAt}
-use Rattle.productions.proofs.Table.{OwnKinds, own-kinds}
+use Rattle.productions.specs.Ending.{ends, rowAt}
+use Rattle.productions.proofs.Table.{OwnKinds, backwards, own-kinds}
 use Rattle.productions.proofs.Places.{ends-all, ends-miss, ends-more, ends-short}
 use Rattle.productions.proofs.ends.Statement.{statement}
 use Rattle.productions.proofs.ends.Tie as tie

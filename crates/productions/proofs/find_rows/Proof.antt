@@ -19,7 +19,7 @@ Inv-loop kinds numbers rows₀ i₀ rows i =
 abbrev μ-loop : tie.MeasureT-loop
 μ-loop kinds numbers rows₀ i₀ rows i = length kinds - i
 
-module _ (c : tie.After-production Inv-loop μ-loop) where
+module _ (c : tie.After-last-row Inv-loop μ-loop) where
   abbrev at : tie.At-loop Inv-loop μ-loop
   at = c .before .before
 
@@ -31,8 +31,8 @@ again c =
     let inside : at c .loop .i < length (begin c .args .kinds .now) = c .before .loop-test .taken in
     let room : at c .loop .i < length (at c .loop .rows) = omega (arith, at c .loop .inv .1, inside, begin c .pre .1) in (
       omega (arith, inside),
-      length-set (at c .loop .rows) (at c .loop .i) (c .production .result) ∙ at c .loop .inv .1,
-      λ places keys. rows-more (recordsOf (begin c .args .kinds .now) (begin c .args .numbers .now) places keys) (at c .loop .rows) (at c .loop .i) _ (at c .loop .inv .2 places keys) room (c .production .ensures places keys),
+      length-set (at c .loop .rows) (at c .loop .i) (c .last-row .result) ∙ at c .loop .inv .1,
+      λ places keys. rows-more (recordsOf (begin c .args .kinds .now) (begin c .args .numbers .now) places keys) (at c .loop .rows) (at c .loop .i) _ (at c .loop .inv .2 places keys) room (c .last-row .ensures places keys),
     )
 
 pub find-rows-spec : {M : Type 1} → statement M
@@ -44,7 +44,7 @@ find-rows-spec =
     (λ c. (omega arith, refl, λ places keys. rows-none (recordsOf _ _ places keys) _))
     (λ c. omega (arith, c .loop-test .taken, c .before .before .before .before .before .good .0 .0))
     (λ c κs. fewer _ _ _ _ (c .before .before .before .before .before .pre .0) (omega (arith, c .loop-test .taken)))
-    (λ c. omega (arith, c .production .ensures [] [], row-low (tokensBefore (begin c .args .kinds .now) (begin c .args .numbers .now) [] [] (at c .loop .i + 1))))
+    (λ c. omega (arith, c .last-row .ensures [] [], row-low (tokensBefore (begin c .args .kinds .now) (begin c .args .numbers .now) [] [] (at c .loop .i + 1))))
     (λ c. omega (arith, at c .loop .inv .1, c .before .loop-test .taken, begin c .pre .1))
     (λ c. omega (arith, c .before .loop-test .taken, begin c .good .0 .0))
     (λ c. omega (arith, c .before .loop-test .taken))

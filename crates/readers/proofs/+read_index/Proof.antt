@@ -10,7 +10,7 @@ use Rattle.semantics.specs.Operations.{Token}
 use Rattle.semantics.specs.Records.{Records, tokenAt}
 use Rattle.semantics.specs.FromTokens.{idxFromTokens}
 use Rattle.productions.specs.Before.{before}
-use Rattle.productions.specs.Ending.{production, rowFound}
+use Rattle.productions.specs.Ending.{lastRow, rowFound}
 use Rattle.productions.proofs.Places.{At}
 use Rattle.readers.specs.declared.Reading.{Reading}
 use Rattle.productions.specs.Noted.{Fitting, Rows}
@@ -74,7 +74,7 @@ module _ (t : ℕ) (c : lts.After-row-before (called t) (pre t) read-index.Post 
   abbrev turn : lts.At-loop (called t) (pre t) read-index.Post Inv μ-loop
   turn = c .before .before
 
-  row-is : (r : Records) → Rows r (rows t turn) (last t turn) → c .row-before .result ≡ rowFound (production (before (tokenAt r) (turn .loop .end)))
+  row-is : (r : Records) → Rows r (rows t turn) (last t turn) → c .row-before .result ≡ rowFound (lastRow (before (tokenAt r) (turn .loop .end)))
   row-is r p = c .row-before .ensures ∙ p .noted (turn .loop .end) (turn .loop .inv .low)
 
 -- and whose width is

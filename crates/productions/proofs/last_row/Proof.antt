@@ -10,8 +10,8 @@ use Rattle.productions.specs.Before.{before}
 use Rattle.productions.specs.Ending.{candidateOf, kindAt}
 use Rattle.productions.proofs.Places.{four-no, known-kind, no-fit, no-row, row-fits, row-four, row-single}
 use Rattle.productions.proofs.Table.{widths}
-use Rattle.productions.proofs.production.Statement.{statement}
-use Rattle.productions.proofs.production.Tie as tie
+use Rattle.productions.proofs.last_row.Statement.{statement}
+use Rattle.productions.proofs.last_row.Tie as tie
 
 abbrev begin : tie.After-candidate → tie.Start
 begin a = a .before .before .before
@@ -69,8 +69,8 @@ returns-6 c places keys =
     no-fit (token a places keys) (begin a .args .end) _ (candidate-is a places keys) (c .before .before .before .before .before .if1 .left)
     (sym (c .if5 .left) ∙ c .before .ends-with .ensures places keys)
 
-pub production-spec : {M : Type 1} → statement M
-production-spec =
+pub last-row-spec : {M : Type 1} → statement M
+last-row-spec =
     tie.close
     (tie.spec
     (λ c κs. (c .before .before .pre .known, c .before .before .pre .within))
