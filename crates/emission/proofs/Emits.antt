@@ -1,7 +1,7 @@
 -- The loops over pieces: what is judged (`Judging`), and what is written (`Emitting`).
 use Prim.Native.Nat.{ℕ, suc, _+_, _-_, _≤_, _<_}
-use mathlib.Core.Bool.{Bool, false, _||_}
-use mathlib.Core.Option.{Option, some}
+use mathlib.Core.Bool.{Bool, true, false, cond, _||_}
+use mathlib.Core.Option.{Option, none, some}
 use mathlib.Core.Path.{_≡_, refl, sym, ap, ap₂, _∙_}
 use mathlib.Core.List.{List, [], _∷_, _++_, append-assoc, append-nil}
 use native.Mathlib.Nat.{add-zero}
@@ -15,7 +15,7 @@ use Rattle.semantics.specs.Operations.{Token}
 use Rattle.semantics.specs.Records.{Records, tokenAt}
 use Rattle.semantics.specs.Evaluate.{over}
 use Rattle.productions.specs.Before.{Whole, before}
-use Rattle.emission.specs.Pieces.{Met, Piece, bytesOf, joined, judged, leadOf, missingIf, part, pieces, piecesAfter, placedPiece, put, sizeOf, terminalOf, terminalsOf, unlessBroken}
+use Rattle.emission.specs.Pieces.{Met, Piece, bytesOf, isPriceOracle1W, joined, judged, part, pieces, piecesAfter, placedPiece, put, sizeOf, terminalOf, terminalsOf, unlessBroken}
 use Rattle.emission.specs.declared.Judged.{Judged}
 use Rattle.emission.specs.declared.CommandAt.{CommandAt}
 use Rattle.productions.proofs.Tokens.{drop-before}
@@ -70,17 +70,20 @@ judging-next r start end bytes first later j few whole h p met next e t f n g =
     }
 
 -- the oracle rule by the first terminal and the later ones
-rule-first : (ts : List Terminal) → getD ts 0 Terminal.Other ≡ Terminal.PriceOracle1W → rule ts [] ≡ some Refusal.PriceOracle1WFirst
-rule-first [] e = let z : _≡_ {A = ℕ} 0 1 = ap leadOf e in absurd (omega arith)
-rule-first (Terminal.Other ∷ ts) e = let z : _≡_ {A = ℕ} 0 1 = ap leadOf e in absurd (omega arith)
-rule-first (Terminal.PriceOracle1 ∷ ts) e = let z : _≡_ {A = ℕ} 0 1 = ap leadOf e in absurd (omega arith)
+no-yes : {A : Type 0} → false ≡ true → A
+no-yes e = let z : _≡_ {A = ℕ} 0 1 = ap (λ (b : Bool). cond b 1 0) e in absurd (omega arith)
+
+rule-first : (ts : List Terminal) → isPriceOracle1W (getD ts 0 Terminal.Other) ≡ true → rule ts [] ≡ some Refusal.PriceOracle1WFirst
+rule-first [] e = no-yes e
+rule-first (Terminal.Other ∷ ts) e = no-yes e
+rule-first (Terminal.PriceOracle1 ∷ ts) e = no-yes e
 rule-first (Terminal.PriceOracle1W ∷ ts) e = refl
 
-rule-later : (ts : List Terminal) → leadOf (getD ts 0 Terminal.Other) ≡ 0 → rule ts [] ≡ missingIf (among (drop 1 ts))
+rule-later : (ts : List Terminal) → isPriceOracle1W (getD ts 0 Terminal.Other) ≡ false → rule ts [] ≡ missing (drop 1 ts)
 rule-later [] e = refl
 rule-later (Terminal.Other ∷ ts) e = ap missing (append-nil ts)
 rule-later (Terminal.PriceOracle1 ∷ ts) e = ap missing (append-nil ts)
-rule-later (Terminal.PriceOracle1W ∷ ts) e = absurd (omega arith)
+rule-later (Terminal.PriceOracle1W ∷ ts) e = no-yes (sym e)
 
 module _ (r : Records) (start end bytes : ℕ) (first : Terminal) (later : Bool) (j : Judging r start end bytes first later) (h : end ≤ start) where
   all-done : pieces (length (r .kinds) - start) (before (tokenAt r) (length (r .kinds))) ≡ j .done
@@ -92,12 +95,19 @@ module _ (r : Records) (start end bytes : ℕ) (first : Terminal) (later : Bool)
   unfolding judged
   judged-by x e = sym (rw (all-done, e, ← j .size))
 
-  pub judged-first : first ≡ Terminal.PriceOracle1W → Judged.Broken Refusal.PriceOracle1WFirst ≡ judged (pieces (length (r .kinds) - start) (before (tokenAt r) (length (r .kinds))))
-  judged-first e = judged-by (some Refusal.PriceOracle1WFirst) (rule-first (terminalsOf (j .done)) (sym (j .firstIs) ∙ e))
+  pub judged-first : isPriceOracle1W first ≡ true → Judged.Broken Refusal.PriceOracle1WFirst ≡ judged (pieces (length (r .kinds) - start) (before (tokenAt r) (length (r .kinds))))
+  judged-first e = judged-by (some Refusal.PriceOracle1WFirst) (rule-first (terminalsOf (j .done)) (ap isPriceOracle1W (sym (j .firstIs)) ∙ e))
 
-  pub judged-later : leadOf first ≡ 0 → unlessBroken (missingIf later) bytes ≡ judged (pieces (length (r .kinds) - start) (before (tokenAt r) (length (r .kinds))))
-  judged-later e =
-      judged-by (missingIf later) (rule-later (terminalsOf (j .done)) (ap leadOf (sym (j .firstIs)) ∙ e) ∙ ap missingIf (sym (j .laterIs)))
+  module _ (other : isPriceOracle1W first ≡ false) where
+    by-later : (b : Bool) → later ≡ b → rule (terminalsOf (j .done)) [] ≡ cond b (some Refusal.PriceOracle1Missing) none
+    by-later b e =
+        rule-later (terminalsOf (j .done)) (ap isPriceOracle1W (sym (j .firstIs)) ∙ other) ∙ ap (λ (x : Bool). cond x (some Refusal.PriceOracle1Missing) none) (sym (j .laterIs) ∙ e)
+
+    pub judged-later : later ≡ true → Judged.Broken Refusal.PriceOracle1Missing ≡ judged (pieces (length (r .kinds) - start) (before (tokenAt r) (length (r .kinds))))
+    judged-later e = judged-by (some Refusal.PriceOracle1Missing) (by-later true e)
+
+    pub judged-kept : later ≡ false → Judged.Kept bytes ≡ judged (pieces (length (r .kinds) - start) (before (tokenAt r) (length (r .kinds))))
+    judged-kept e = judged-by none (by-later false e)
 
 -- EMITTING: what stands behind `at` is written
 pub record Emitting (r : Records) (start : ℕ) (old : List ℕ) (end at : ℕ) (buffer : List ℕ) : Type 0 where

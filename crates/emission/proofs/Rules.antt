@@ -1,12 +1,14 @@
 -- The oracle rule over pieces is the rule over a condition's terminals: `broken-rule`.
-use mathlib.Core.Bool.{Bool, true, false, _||_}
+use mathlib.Core.Bool.{Bool, true, false, cond, _||_}
+use mathlib.Core.Option.{Option, none, some}
 use mathlib.Core.Path.{_≡_, refl, sym, ap, _∙_}
 use mathlib.Core.List.{List, [], _∷_, _++_, append-assoc, append-nil}
 use Rattle.semantics.specs.declared.IdxOp.{IdxOp}
+use Rattle.semantics.specs.declared.Refusal.{Refusal}
 use Rattle.semantics.specs.declared.Terminal.{Terminal}
 use Rattle.semantics.specs.Trees.{Arith, Expr, IdxExpr}
 use Rattle.semantics.specs.Oracle.{among, missing, oracleRule, rule, terminals}
-use Rattle.emission.specs.Pieces.{Piece, broken, missingIf, ownPiece, terminalsOf}
+use Rattle.emission.specs.Pieces.{Piece, broken, ownPiece, terminalsOf}
 use Rattle.emission.proofs.Trees.{arithPieces, betweenPieces, exprPieces, idxPieces}
 
 or-assoc : (a b c : Bool) → ((a || b) || c) ≡ (a || (b || c))
@@ -18,6 +20,10 @@ among-append [] b = refl
 among-append (Terminal.Other ∷ ts) b = among-append ts b
 among-append (Terminal.PriceOracle1 ∷ ts) b = refl
 among-append (Terminal.PriceOracle1W ∷ ts) b = among-append ts b
+
+-- `missing`, by whether PriceOracle1 is among the terminals
+abbrev missingIf : Bool → Option Refusal
+missingIf b = cond b (some Refusal.PriceOracle1Missing) none
 
 -- no piece of an index is a terminal
 among-between : (o : IdxOp) (q : List Piece) → among (terminalsOf (betweenPieces o ++ q)) ≡ among (terminalsOf q)

@@ -1,7 +1,7 @@
 -- The condition code that tokens are the form of, a piece for each production, from the last token back.
 use Prim.Native.Nat.{ℕ, zero, suc, _+_, _-_, _≤_, _<_}
 use mathlib.Core.Path.{_≡_}
-use mathlib.Core.Bool.{Bool, _&&_, cond}
+use mathlib.Core.Bool.{Bool, true, false, _&&_, cond}
 use mathlib.Core.Option.{Option, none, some}
 use mathlib.Core.List.{List, [], _∷_, _++_, map}
 use lib.ListN.{length, getD, take, drop}
@@ -95,9 +95,6 @@ terminalsOf ps = map (λ p. terminalOf (p .command)) ps
 abbrev pub broken : List Piece → Option Refusal
 broken ps = rule (terminalsOf ps) []
 
-abbrev pub missingIf : Bool → Option Refusal
-missingIf later = cond later (some Refusal.PriceOracle1Missing) none
-
 abbrev pub unlessBroken : Option Refusal → ℕ → Judged
 unlessBroken none size = Judged.Kept size
 unlessBroken (some r) size = Judged.Broken r
@@ -105,14 +102,14 @@ unlessBroken (some r) size = Judged.Broken r
 unfoldable pub judged : List Piece → Judged
 judged ps = unlessBroken (broken ps) (length (joined ps))
 
--- how many tokens a command has before the form of its oracle
-abbrev pub leadOf : Terminal → ℕ
-leadOf Terminal.PriceOracle1 = 0
-leadOf Terminal.PriceOracle1W = 1
-leadOf Terminal.Other = 0
+abbrev pub isPriceOracle1W : Terminal → Bool
+isPriceOracle1W Terminal.PriceOracle1 = false
+isPriceOracle1W Terminal.PriceOracle1W = true
+isPriceOracle1W Terminal.Other = false
 
+-- how many tokens a command has before the form of its oracle
 abbrev pub lead : Command → ℕ
-lead c = leadOf (terminalOf c)
+lead c = cond (isPriceOracle1W (terminalOf c)) 1 0
 
 -- operand bytes by their number: a number stands in the first token; an oracle's time and key stand two and seven places behind the first token of its form
 abbrev pub operandsAt : Records → ℕ → ℕ → ℕ → List ℕ

@@ -24,7 +24,7 @@ ghost use Rattle.productions.specs.Before.{Numbered, Whole, tokensBefore};
 ghost use Rattle.productions.specs.Noted.{Fitting, Rows};
 ghost use Rattle.semantics.specs.Evaluate.{over};
 ghost use Rattle.semantics.specs.Oracle.{among};
-ghost use Rattle.emission.specs.Pieces.{Noticed, Placed, bytesOf, joined, judged, lead, missingIf, pieces, placedPiece, put, sizeOf, terminalOf, unlessBroken};
+ghost use Rattle.emission.specs.Pieces.{Noticed, Placed, bytesOf, isPriceOracle1W, joined, judged, lead, pieces, placedPiece, put, sizeOf, terminalOf};
 
 // The kind of the current index.
 const CURR_INP: u8 = 4;
@@ -126,14 +126,14 @@ fn among_later(later: bool, first: Terminal) -> bool
     }
 }
 
-// The length of code that does not begin with PriceOracle1W.
-fn unless_missing(later: bool, bytes: usize) -> Judged
-    ensures { λ r. ⌜ r ≡ unlessBroken (missingIf later) bytes ⌝ }
+fn is_price_oracle_1w(terminal: Terminal) -> bool
+    ensures { λ r. ⌜ r ≡ isPriceOracle1W terminal ⌝ }
 {
-    if later {
-        return Judged::Broken(Refusal::PriceOracle1Missing);
+    match terminal {
+        Terminal::PriceOracle1 => false,
+        Terminal::PriceOracle1W => true,
+        Terminal::Other => false,
     }
-    Judged::Kept(bytes)
 }
 
 // The length of the code of the tokens from `start` on; 4 if the first command is PriceOracle1W, else 5 if PriceOracle1 is among the later ones.
@@ -155,21 +155,24 @@ pub fn judge(kinds: &[u8], rows: &[u8; MAX_TOKENS], start: usize) -> Judged
         bytes += size(command);
         end = last.first;
     }
-    match first {
-        Terminal::PriceOracle1 => unless_missing(later, bytes),
-        Terminal::PriceOracle1W => Judged::Broken(Refusal::PriceOracle1WFirst),
-        Terminal::Other => unless_missing(later, bytes),
+    let w_first = is_price_oracle_1w(first);
+    if w_first {
+        return Judged::Broken(Refusal::PriceOracle1WFirst);
     }
+    if later {
+        return Judged::Broken(Refusal::PriceOracle1Missing);
+    }
+    Judged::Kept(bytes)
 }
 
 // How many tokens a command has before the form of its oracle.
 fn lead(command: Command) -> usize
     ensures { λ r. ⌜ r ≡ lead command ⌝ }
 {
-    match terminal_of(command) {
-        Terminal::PriceOracle1 => 0,
-        Terminal::PriceOracle1W => 1,
-        Terminal::Other => 0,
+    if is_price_oracle_1w(terminal_of(command)) {
+        1
+    } else {
+        0
     }
 }
 

@@ -3,7 +3,7 @@
 use Prim.Native.Nat.{ℕ, suc}
 use mathlib.Core.Bool.{Bool, true, false, _&&_, cond}
 use mathlib.Core.List.{List, [], _∷_, _++_, map, reverse}
-use lib.ListN.{length, getD, drop, take}
+use lib.ListN.{length, getD, drop}
 use lib.Dec.{eqb, ltb}
 use Rattle.semantics.specs.Operations.{Token, op, idxRow, cmpRow, amountLists, binOps, cmpOps, idxOps, unOps}
 use Rattle.semantics.specs.declared.Command.{Command}

@@ -1,7 +1,7 @@
 -- The invariant: the pieces so far are counted, and the first terminal and whether PriceOracle1 is among the others are known.
 use borrow.Author.Needs.{needs}
 use Prim.Native.Nat.{ℕ, _+_, _*_, _≤_}
-use mathlib.Core.Path.{ap, _∙_}
+use mathlib.Core.Path.{sym, _∙_}
 use mathlib.Core.List.{List}
 use native.Mathlib.Omega.{arith}
 use lib.ListN.{length}
@@ -10,9 +10,8 @@ use Rattle.productions.specs.Before.{Whole}
 use Rattle.productions.specs.Noted.{Rows}
 use Rattle.productions.proofs.Noted.{fitting-fewer, rows-fewer}
 use Rattle.emission.specs.declared.CommandAt.{CommandAt}
-use Rattle.emission.specs.Pieces.{leadOf}
 use Rattle.emission.proofs.Mets.{size-most}
-use Rattle.emission.proofs.Emits.{Judging, judged-first, judged-later, judging-next, judging-start}
+use Rattle.emission.proofs.Emits.{Judging, judged-first, judged-kept, judged-later, judging-next, judging-start}
 use Rattle.emission.proofs.judge.Statement.{statement}
 use Rattle.emission.proofs.judge.Tie as tie
 
@@ -67,24 +66,25 @@ add-bytes c =
     let few = size-most (met c .command) in
     omega (arith, c .size .ensures, start₁ (at c) .pre .few, at c .loop .inv)
 
+module _ (a : tie.At-loop Inv-loop μ-loop) (numbers places keys : List ℕ)
+    (noted : Rows (records a numbers places keys) (start₁ a .args .rows .now) (length (start₁ a .args .kinds .now))) (whole : Whole (start₁ a .args .kinds .now) places keys) where
+  abbrev so-far : Judging (records a numbers places keys) (start₁ a .args .start) (a .loop .end) (a .loop .bytes) (a .loop .first) (a .loop .later)
+  so-far = a .loop .inv .2 numbers places keys noted whole
+
 returns : tie.Need-returns Inv-loop μ-loop
 returns c numbers places keys noted whole =
-    let a = c .before .before .before .before in
-    c .unless-missing .ensures
-    ∙ judged-later (records a numbers places keys) (start₁ a .args .start) (a .loop .end) (a .loop .bytes) (a .loop .first) (a .loop .later) (a .loop .inv .2 numbers places keys noted whole) (c .before .before .before .loop-test .left)
-    (ap leadOf (c .before .enum-told .given .1))
+    let w = c .before in
+    judged-first _ _ _ _ _ _ (so-far (w .before .before) numbers places keys noted whole) (w .before .loop-test .left) (sym (w .is-price-oracle-1w .ensures) ∙ c .if1 .taken)
 
 returns-2 : tie.Need-returns-2 Inv-loop μ-loop
 returns-2 c numbers places keys noted whole =
-    let a = c .before .before .before in
-    judged-first (records a numbers places keys) (start₁ a .args .start) (a .loop .end) (a .loop .bytes) (a .loop .first) (a .loop .later) (a .loop .inv .2 numbers places keys noted whole) (c .before .before .loop-test .left) (c .enum-told2 .given .1)
+    let w = c .before .before in
+    judged-later _ _ _ _ _ _ (so-far (w .before .before) numbers places keys noted whole) (w .before .loop-test .left) (sym (w .is-price-oracle-1w .ensures) ∙ c .before .if1 .left) (c .if2 .taken)
 
 returns-3 : tie.Need-returns-3 Inv-loop μ-loop
 returns-3 c numbers places keys noted whole =
-    let a = c .before .before .before .before in
-    c .unless-missing2 .ensures
-    ∙ judged-later (records a numbers places keys) (start₁ a .args .start) (a .loop .end) (a .loop .bytes) (a .loop .first) (a .loop .later) (a .loop .inv .2 numbers places keys noted whole) (c .before .before .before .loop-test .left)
-    (ap leadOf (c .before .enum-told3 .given .1))
+    let w = c .before .before in
+    judged-kept _ _ _ _ _ _ (so-far (w .before .before) numbers places keys noted whole) (w .before .loop-test .left) (sym (w .is-price-oracle-1w .ensures) ∙ c .before .if1 .left) (c .if2 .left)
 
 pub judge-spec : {M : Type 1} → statement M
 judge-spec =
@@ -100,10 +100,6 @@ judge-spec =
     add-bytes
     (λ c. c .before .before .before .last-command .ensures .falls)
     loop-again
-    (λ c. search needs)
-    (λ c κs. search needs)
-    (λ c. search needs)
-    (λ c. search needs)
     (λ c κs. search needs)
     returns
     returns-2

@@ -1,7 +1,7 @@
 -- The row that is noted, but for the twin.
 use borrow.Author.Needs.{needs}
 use Prim.Native.Nat.{ℕ, _-_, _≤_}
-use mathlib.Core.Path.{_∙_}
+use mathlib.Core.Path.{_≡_, _∙_}
 use mathlib.Core.Logic.{⊎-elim}
 use mathlib.Core.List.{List, []}
 use native.Mathlib.Omega.{arith}
@@ -41,9 +41,9 @@ returns c =
       met = λ numbers places keys p. met-none (records s numbers places keys) (s .args .end) _ (b .row-before .ensures ∙ p .noted _ (omega arith)) (c .if1 .taken) (s .pre .2);
     }
 
-sub-t13 : tie.Need-sub-t13
-sub-t13 c =
-    let w = c .before .before .before in twin-some (records (start w) [] [] []) _ _ (c .before .kind-before .ensures [] [] []) (c .if3 .taken)
+-- the current index stands there
+current : (c : tie.After-kind-before) → c .kind-before .result ≡ 4 → 1 ≤ end (c .before .before) - c .before .before .width .result
+current c e = twin-some (records (start (c .before .before)) [] [] []) _ _ (c .kind-before .ensures [] [] []) e
 
 returns-2 : tie.Need-returns-2
 returns-2 c =
@@ -72,7 +72,7 @@ last-command-spec =
     (λ c κs. search needs)
     (λ c. own c .1)
     (λ c κs. omega (arith, start (c .before) .pre .1))
-    sub-t13
+    (λ c. current (c .before) (c .if3 .taken))
     returns-2
     (λ c κs. c .before .before .if1 .left)
     returns-3)

@@ -1,9 +1,8 @@
 -- In each call the row is the one that was tested for.
 use borrow.Author.Needs.{needs}
 use Prim.Native.Nat.{ℕ, _<_}
-use mathlib.Core.Path.{_≡_, sym, ap, subst, _∙_}
+use mathlib.Core.Path.{sym, ap, subst, _∙_}
 use lib.ListN.{length}
-use Rattle.semantics.specs.Records.{recordsOf}
 use Rattle.productions.specs.Before.{tokensBefore}
 use Rattle.productions.specs.Ending.{ends, rowAt}
 use Rattle.productions.proofs.ends_with.Statement.{statement}

@@ -1,5 +1,5 @@
 -- By the tests.
-use mathlib.Core.Logic.{_⊎_, inl, inr}
+use mathlib.Core.Logic.{inl, inr}
 use native.Mathlib.Omega.{arith}
 use Rattle.decoder.proofs.soundness.shortest.Statement.{statement}
 use Rattle.decoder.proofs.soundness.shortest.Tie as tie
