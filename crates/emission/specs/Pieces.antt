@@ -84,7 +84,7 @@ unfoldable pub joined : List Piece → List ℕ
 joined [] = []
 joined (p ∷ ps) = bytesOf p ++ joined ps
 
--- what a command is to the oracle rule: what is no terminal is another
+-- what a command is to the oracle rule; one that is no terminal counts as another terminal
 abbrev pub terminalOf : Command → Terminal
 terminalOf c = getD (commandRow c .terminals) 0 Terminal.Other
 
