@@ -9,9 +9,10 @@ use Rattle.slices.specs.Stack.{stackOf}
 use Rattle.slices.specs.Bytes.{All}
 use Rattle.semantics.specs.declared.Command.{Command}
 use Rattle.semantics.specs.Code.{Made, commandRow, needMet, maxTokens}
-use Rattle.semantics.specs.Parse.{fold, instructions}
+use Rattle.semantics.specs.Parse.{after, commandAt, fold, instructions, operandsAt}
 use Rattle.semantics.specs.Token.{narrow}
 use Rattle.summary.specs.declared.Summary.{Summary}
+use Rattle.conversions.specs.declared.Turn.{Turn}
 
 -- whether a command has a token between its operands' tokens, which is SCRIPTNUMTOLE64
 abbrev pub converts : Command → Bool
@@ -72,6 +73,13 @@ pub record Ready (c : Command) (count indexes : ℕ) (waiting : List ℕ) (marks
   pub few : count < maxTokens
   pub indexes-fit : indexes < length waiting
   pub earlier : All (λ k. k < count) (stackIn waiting indexes)
+
+-- what one command does: the next stands after it, and it settles the state; or 6 turns it down
+abbrev pub Turned : List ℕ → ℕ → Marking → List ℕ → List Bool → ℕ → Turn → Type 0
+Turned code at old waiting marks count (Turn.On next indexes) =
+    (narrow (commandRow (commandAt code at) .tokens (operandsAt code at)) ≡ true) × (next ≡ after code at)
+    × (markingIn waiting indexes marks count ≡ settled old (commandAt code at))
+Turned code at old waiting marks count Turn.TooLarge = narrow (commandRow (commandAt code at) .tokens (operandsAt code at)) ≡ false
 
 -- of code with so many lookups, for whose tokens there is room
 abbrev pub Fits : ℕ → ℕ → ℕ → Summary → Type 0

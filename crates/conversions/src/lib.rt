@@ -3,16 +3,14 @@
 // `Command::Unknown` is not met: Check has turned down code that has it.
 use semantics::Command;
 use semantics::IdxOp;
-ghost use mathlib.Core.Bool.{true};
 ghost use mathlib.Core.Path.{_≡_};
 ghost use mathlib.Core.List.{_∷_};
 ghost use Prim.Native.Nat.{_+_, _≤_, _<_};
 ghost use lib.ListN.{length};
 ghost use Rattle.semantics.specs.declared.Command.{Command};
-ghost use Rattle.semantics.specs.Code.{commandRow, maxTokens};
-ghost use Rattle.conversions.specs.Marks.{Fits, Found, Ready, Unmarked, converts, markingIn, settled, stackIn};
-ghost use Rattle.semantics.specs.Parse.{operandBytes};
-ghost use Rattle.semantics.specs.Token.{narrow};
+ghost use Rattle.semantics.specs.Code.{maxTokens};
+ghost use Rattle.conversions.specs.Marks.{Fits, Found, Ready, Turned, Unmarked, converts, markingIn, settled, stackIn};
+ghost use Rattle.semantics.specs.Parse.{after, commandAt};
 ghost use Rattle.condition.specs.Walk.{Passed};
 
 // A Num holds less: 2^32.
@@ -27,27 +25,6 @@ fn converts_left(op: IdxOp) -> bool
         IdxOp::Sub => false,
         IdxOp::Mul => true,
         IdxOp::Div => true,
-    }
-}
-
-// Refusal 6 does not fall on a command, whose operand bytes stand at `at`.
-fn is_narrow(command: Command, code: &[u8], at: usize) -> bool
-    requires { ⌜ at + commandRow command .width ≤ length (now code) ⌝ }
-    ensures { λ r. ⌜ r ≡ narrow (commandRow command .tokens (operandBytes command (now (code .entry)) at)) ⌝ }
-{
-    match command {
-        Command::Unknown => true,
-        Command::IdxConst => slices::read_le64(code, at) < NUM_LIMIT,
-        Command::CurrIdx => true,
-        Command::Index(_) => true,
-        Command::Const => true,
-        Command::CurrInputIdx => true,
-        Command::Lookup(_) => true,
-        Command::Binary(_) => true,
-        Command::Unary(_) => true,
-        Command::PriceOracle1 => true,
-        Command::PriceOracle1W => true,
-        Command::Compare(_) => true,
     }
 }
 
@@ -76,30 +53,44 @@ fn operate(
     push(count, indexes - 2, waiting)
 }
 
-// One command, after `count` others.
+// After a command: where the next one stands, and how many index operands wait; or refusal 6 falls on it.
+pub enum Turn {
+    On(usize, usize),
+    TooLarge,
+}
+
+// The command at a place, after `count` others. It is read and told apart in one function, which the compiler makes one table of.
 fn step(
-    command: Command,
+    code: &[u8],
+    at: usize,
     count: usize,
     indexes: usize,
     waiting: &mut [u16],
     marks: &mut [bool],
-) -> usize
-    requires { ⌜ Ready command count indexes (now waiting) (now marks) ⌝ }
-    ensures { λ r. ⌜ markingIn (now (waiting .exit)) r (now (marks .exit)) count ≡ settled (markingIn (now (waiting .entry)) indexes (now (marks .entry)) count) command ⌝ }
+) -> Turn
+    requires { ⌜ (after (now code) at ≤ length (now code)) × Ready (commandAt (now code) at) count indexes (now waiting) (now marks) ⌝ }
+    ensures { λ r. ⌜ Turned (now (code .entry)) at (markingIn (now (waiting .entry)) indexes (now (marks .entry)) count) (now (waiting .exit)) (now (marks .exit)) count r ⌝ }
 {
+    let here = commands::next(code, at);
+    let command = here.command;
     match command {
-        Command::Unknown => indexes,
-        Command::IdxConst => push(count, indexes, waiting),
-        Command::CurrIdx => push(count, indexes, waiting),
-        Command::Index(op) => operate(op, count, indexes, waiting, marks),
-        Command::Const => indexes,
-        Command::CurrInputIdx => indexes,
-        Command::Lookup(_) => indexes - 1,
-        Command::Binary(_) => indexes,
-        Command::Unary(_) => indexes,
-        Command::PriceOracle1 => indexes,
-        Command::PriceOracle1W => indexes,
-        Command::Compare(_) => indexes,
+        Command::Unknown => Turn::On(here.next, indexes),
+        Command::IdxConst => {
+            if NUM_LIMIT <= slices::read_le64(code, here.operands) {
+                return Turn::TooLarge;
+            }
+            Turn::On(here.next, push(count, indexes, waiting))
+        }
+        Command::CurrIdx => Turn::On(here.next, push(count, indexes, waiting)),
+        Command::Index(op) => Turn::On(here.next, operate(op, count, indexes, waiting, marks)),
+        Command::Const => Turn::On(here.next, indexes),
+        Command::CurrInputIdx => Turn::On(here.next, indexes),
+        Command::Lookup(_) => Turn::On(here.next, indexes - 1),
+        Command::Binary(_) => Turn::On(here.next, indexes),
+        Command::Unary(_) => Turn::On(here.next, indexes),
+        Command::PriceOracle1 => Turn::On(here.next, indexes),
+        Command::PriceOracle1W => Turn::On(here.next, indexes),
+        Command::Compare(_) => Turn::On(here.next, indexes),
     }
 }
 
@@ -116,15 +107,17 @@ pub fn mark(code: &[u8], lookups: usize, waiting: &mut [u16], marks: &mut [bool]
     let mut count = 0;
     let mut indexes = 0;
     while at < code.len() {
-        let here = commands::next(code, at);
-        let command = here.command;
-        if !is_narrow(command, code, here.operands) {
-            return false;
+        match step(code, at, count, indexes, waiting, marks) {
+            Turn::On(next, n) => {
+                at = next;
+                indexes = n;
+            }
+            Turn::TooLarge => {
+                return false;
+            }
         }
-        indexes = step(command, count, indexes, waiting, marks);
         marks[count] = false;
         count += 1;
-        at = here.next;
     }
     true
 }

@@ -5,12 +5,12 @@ use mathlib.Core.Bool.{Bool, true, false, _&&_, cond}
 use mathlib.Core.List.{List, [], _∷_, _++_, map, reverse}
 use lib.ListN.{length, getD, drop}
 use lib.Dec.{eqb, ltb}
+use Rattle.semantics.specs.Code.{commandRow}
 use Rattle.semantics.specs.Operations.{Token, op, idxRow, cmpRow, amountLists, binOps, cmpOps, idxOps, unOps}
 use Rattle.semantics.specs.declared.Command.{Command}
 use Rattle.semantics.specs.declared.IdxOp.{IdxOp}
 use Rattle.semantics.specs.declared.CmpOp.{CmpOp}
 use Rattle.semantics.specs.FromTokens.{Found, Head, IdxHead, found, headForm, heads, idxHeadForm, nothing, numberAt}
-use Rattle.token_table.specs.TokenRows.{ownTokens}
 
 pub data Production : Type 0 where
   value : Head → Production
@@ -63,7 +63,7 @@ pub record Row : Type 0 where
 
 -- a command's row, of its own tokens; a constant, a time and a key may be any
 abbrev pub rowOf : Command → Row
-rowOf c = record { command = c; marks = map mark (reverse (ownTokens c [])) }
+rowOf c = record { command = c; marks = map mark (reverse (commandRow c .tokens [])) }
 
 -- what stands between the operands of index mul and div is no command's
 abbrev pub betweenRow : Row

@@ -16,7 +16,7 @@ use Rattle.semantics.specs.Parse.{Instruction, fold, instructions}
 use Rattle.semantics.specs.Write.{indexOf, keysFrom, keysOf, placeIn}
 use Rattle.semantics.proofs.Placing.{keys-append}
 use Rattle.keys.specs.Keys.{codeKeys, keyStep}
-use Rattle.token_table.specs.TokenRows.{converted, ownTokens, tokensOf}
+use Rattle.token_table.specs.TokenRows.{converted, tokensOf}
 use Rattle.token_form.specs.Fields.{placeAt}
 use Rattle.token_form.specs.Storing.{Emission, emitStep, emitted}
 
@@ -26,8 +26,8 @@ placeFor c n ks = cond (eqb (commandRow c .width) 40) (32 * indexOf (take 32 n) 
 
 -- of a command's own tokens
 pub record Keyed (c : Command) : Type 0 where
-  places : (n : List ℕ) (ks : List (List ℕ)) → map (placeAt (placeFor c n ks)) (map (λ t. t .kind) (ownTokens c n)) ≡ map (placeIn ks) (ownTokens c n)
-  keys : (n : List ℕ) (ks : List (List ℕ)) → keysFrom ks (ownTokens c n) ≡ keyStep ks c n
+  places : (n : List ℕ) (ks : List (List ℕ)) → map (placeAt (placeFor c n ks)) (map (λ t. t .kind) (commandRow c .tokens n)) ≡ map (placeIn ks) (commandRow c .tokens n)
+  keys : (n : List ℕ) (ks : List (List ℕ)) → keysFrom ks (commandRow c .tokens n) ≡ keyStep ks c n
 
 keyed : (c : Command) → Keyed c
 unfolding keysFrom
@@ -84,7 +84,7 @@ module _ (c : Command) (n : List ℕ) (ks : List (List ℕ)) where
 
   tokens-keys : (b : Bool) → keysFrom ks (tokensOf c n b) ≡ keyStep ks c n
   unfolding keysFrom
-  tokens-keys true = keys-append ks (ownTokens c n) (converted true) ∙ keyed c .keys n ks
+  tokens-keys true = keys-append ks (commandRow c .tokens n) (converted true) ∙ keyed c .keys n ks
   tokens-keys false = simp append-nil (keyed c .keys n ks)
 
 -- token by token, and command by command

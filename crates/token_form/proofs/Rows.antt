@@ -17,8 +17,8 @@ use Rattle.semantics.specs.declared.IdxOp.{IdxOp}
 use Rattle.semantics.specs.declared.UnOp.{UnOp}
 use Rattle.semantics.specs.Operations.{Token}
 use Rattle.token_form.specs.Fields.{bit, numberAt, payload}
-use Rattle.token_table.specs.TokenRows.{converted, ownTokens, tokensOf, tokenRow}
-use Rattle.semantics.specs.Code.{known}
+use Rattle.token_table.specs.TokenRows.{converted, tokensOf, tokenRow}
+use Rattle.semantics.specs.Code.{commandRow, known}
 
 abbrev kindsOf : List Token → List ℕ
 kindsOf = map (λ t. t .kind)
@@ -28,9 +28,9 @@ kindsOf = map (λ t. t .kind)
 abbrev Row : Command → Type 0
 Row c =
     (ltb (tokenRow c .count) 14 ≡ true)
-    × ((n : List ℕ) → length (ownTokens c n) ≡ tokenRow c .count)
-    × ((n : List ℕ) → take (tokenRow c .count + 1) (tokenRow c .kinds) ≡ kindsOf (ownTokens c n) ++ 7 ∷ [])
-    × ((n : List ℕ) → map (numberAt (payload c n .number) (payload c n .bits)) (kindsOf (ownTokens c n)) ≡ map (λ t. t .number) (ownTokens c n))
+    × ((n : List ℕ) → length (commandRow c .tokens n) ≡ tokenRow c .count)
+    × ((n : List ℕ) → take (tokenRow c .count + 1) (tokenRow c .kinds) ≡ kindsOf (commandRow c .tokens n) ++ 7 ∷ [])
+    × ((n : List ℕ) → map (numberAt (payload c n .number) (payload c n .bits)) (kindsOf (commandRow c .tokens n)) ≡ map (λ t. t .number) (commandRow c .tokens n))
 
 row : (c : Command) → known c ≡ true → Row c
 row Command.Unknown k = absurd (let z : _≡_ {A = ℕ} 0 1 = cc in omega arith)
@@ -84,16 +84,16 @@ module _ (c : Command) (k : known c ≡ true) (n : List ℕ) where
   row-short = ltb-true (tokenRow c .count) 14 (row c k .0)
 
   pub tokens-length : (b : Bool) → length (tokensOf c n b) ≡ tokenRow c .count + bit b
-  tokens-length true = length-append (ownTokens c n) (converted true) ∙ ap (λ (m : ℕ). m + 1) (row c k .1 n)
-  tokens-length false = length-append (ownTokens c n) (converted false) ∙ ap (λ (m : ℕ). m + 0) (row c k .1 n)
+  tokens-length true = length-append (commandRow c .tokens n) (converted true) ∙ ap (λ (m : ℕ). m + 1) (row c k .1 n)
+  tokens-length false = length-append (commandRow c .tokens n) (converted false) ∙ ap (λ (m : ℕ). m + 0) (row c k .1 n)
 
   pub tokens-kinds : (b : Bool) → take (tokenRow c .count + bit b) (tokenRow c .kinds) ≡ kindsOf (tokensOf c n b)
-  tokens-kinds true = row c k .2 n ∙ sym (map-append (λ t. t .kind) (ownTokens c n) (converted true))
+  tokens-kinds true = row c k .2 n ∙ sym (map-append (λ t. t .kind) (commandRow c .tokens n) (converted true))
   tokens-kinds false =
-      let ks = kindsOf (ownTokens c n) in
+      let ks = kindsOf (commandRow c .tokens n) in
       let m = tokenRow c .count in
-      let l : length ks ≡ m = length-map (ownTokens c n) (λ t. t .kind) ∙ row c k .1 n in
-      rw (add-zero m, append-nil (ownTokens c n))
+      let l : length ks ≡ m = length-map (commandRow c .tokens n) (λ t. t .kind) ∙ row c k .1 n in
+      rw (add-zero m, append-nil (commandRow c .tokens n))
       (sym (take-take m (m + 1) (tokenRow c .kinds) (omega arith)) ∙ ap (take m) (row c k .2 n) ∙ take-at ks (7 ∷ []) m l)
 
   pub tokens-numbers : (b : Bool) → map (numberAt (payload c n .number) (payload c n .bits)) (kindsOf (tokensOf c n b)) ≡ map (λ t. t .number) (tokensOf c n b)

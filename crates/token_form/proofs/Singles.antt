@@ -5,16 +5,17 @@ use mathlib.Core.Path.{_≡_}
 use mathlib.Core.List.{List, [], _∷_}
 use lib.Dec.{eqb}
 use lib.ListN.{length}
+use Rattle.semantics.specs.Code.{commandRow}
 use Rattle.semantics.specs.declared.Command.{Command}
 use Rattle.semantics.specs.Evaluate.{over}
 use Rattle.semantics.specs.Operations.{Token}
-use Rattle.token_table.specs.TokenRows.{ownTokens, tokensOf}
+use Rattle.token_table.specs.TokenRows.{tokensOf}
 use Rattle.token_form.specs.Storing.{Columns, Room, Stored}
 
 abbrev pub token : ℕ → ℕ → Token
 token kind number = record { kind = kind; number = number; key = [] }
 
-module _ (c : Command) (n : List ℕ) (marked : Bool) (m : marked ≡ false) (kind number : ℕ) (is : ownTokens c n ≡ token kind number ∷ []) where
+module _ (c : Command) (n : List ℕ) (marked : Bool) (m : marked ≡ false) (kind number : ℕ) (is : commandRow c .tokens n ≡ token kind number ∷ []) where
   pub one-token : tokensOf c n marked ≡ token kind number ∷ []
   one-token = rw (m, is)
 

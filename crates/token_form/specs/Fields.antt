@@ -9,7 +9,6 @@ use Rattle.slices.specs.Bytes.{bytesValue}
 use Rattle.semantics.specs.declared.Command.{Command}
 use Rattle.semantics.specs.Code.{Made, commandRow}
 use Rattle.semantics.specs.Operations.{op}
-use Rattle.token_table.specs.TokenRows.{ownTokens}
 
 -- the tokens that a mark adds
 abbrev pub bit : Bool → ℕ
@@ -39,6 +38,6 @@ payload c n = payloadOf (commandRow c .makes) (commandRow c .width) n
 
 -- the kind of a command's only token: one that carries nothing, or the number of eight operand bytes; of 0 nothing is said
 pub record Single (c : Command) (kind : ℕ) : Type 0 where
-  pub plain : 2 < kind → (commandRow c .width ≡ 0) × (eqb kind 3 ≡ false) × ((n : List ℕ) → ownTokens c n ≡ op kind ∷ [])
+  pub plain : 2 < kind → (commandRow c .width ≡ 0) × (eqb kind 3 ≡ false) × ((n : List ℕ) → commandRow c .tokens n ≡ op kind ∷ [])
   pub numbered : 0 < kind → kind ≤ 2
-      → (commandRow c .width ≡ 8) × (eqb kind 3 ≡ false) × ((n : List ℕ) → ownTokens c n ≡ record { kind = kind; number = bytesValue n; key = [] } ∷ [])
+      → (commandRow c .width ≡ 8) × (eqb kind 3 ≡ false) × ((n : List ℕ) → commandRow c .tokens n ≡ record { kind = kind; number = bytesValue n; key = [] } ∷ [])

@@ -8,20 +8,17 @@ use Rattle.semantics.specs.Code.{commandRow}
 use Rattle.semantics.specs.Operations.{Token, op}
 use Rattle.token_table.specs.declared.TokenRow.{TokenRow}
 
--- a command's own tokens, with its operand bytes
-abbrev pub ownTokens : Command → List ℕ → List Token
-ownTokens c n = commandRow c .tokens n
-
 -- SCRIPTNUMTOLE64 follows a command that is marked: one that ends the left operand of Mul or Div
 abbrev pub converted : Bool → List Token
 converted marked = cond marked (op 7 ∷ []) []
 
+-- the tokens that a command writes, with its operand bytes
 abbrev pub tokensOf : Command → List ℕ → Bool → List Token
-tokensOf c n marked = ownTokens c n ++ converted marked
+tokensOf c n marked = commandRow c .tokens n ++ converted marked
 
 -- a row of the table: the number of a command's own tokens, and their kinds with that of SCRIPTNUMTOLE64 after them
 abbrev zeros : List ℕ
 zeros = 0 ∷ 0 ∷ 0 ∷ 0 ∷ 0 ∷ 0 ∷ 0 ∷ 0 ∷ 0 ∷ 0 ∷ 0 ∷ 0 ∷ 0 ∷ []
 
 abbrev pub tokenRow : Command → TokenRow
-tokenRow c = record { count = length (ownTokens c []); kinds = take 14 (map (λ t. t .kind) (tokensOf c [] true) ++ zeros) }
+tokenRow c = record { count = length (commandRow c .tokens []); kinds = take 14 (map (λ t. t .kind) (tokensOf c [] true) ++ zeros) }

@@ -12,7 +12,7 @@ use Rattle.slices.proofs.Bytes.{value-of-bytes}
 use Rattle.semantics.proofs.Forms.{narrow-append}
 use Rattle.semantics.specs.declared.Command.{Command}
 use Rattle.semantics.specs.declared.IdxOp.{IdxOp}
-use Rattle.semantics.specs.Code.{code}
+use Rattle.semantics.specs.Code.{code, commandRow}
 use Rattle.semantics.specs.Operations.{Token, idxRow}
 use Rattle.semantics.specs.Parse.{instructions}
 use Rattle.semantics.specs.Token.{exprForm, form, idxForm, narrow}
@@ -20,7 +20,7 @@ use Rattle.semantics.specs.Trees.{Arith, Expr, IdxExpr}
 use Rattle.semantics.proofs.Encodable.{Encodable, ExprEncodable, IdxEncodable}
 use Rattle.semantics.proofs.Machine.{fold-code, fold-map, onExpr, onIdx}
 use Rattle.conversions.specs.Marks.{Marking, converts, markStep, marksOf, narrowCode, narrowStep, unmarked}
-use Rattle.token_table.specs.TokenRows.{converted, ownTokens, tokensOf}
+use Rattle.token_table.specs.TokenRows.{converted, tokensOf}
 use Rattle.conversions.proofs.Narrow.{and-end}
 use Rattle.token_form.specs.Storing.{Emission, emitStep, emitted}
 
@@ -128,9 +128,9 @@ emitted-form (Arith.Compare o x y) k rest =
 -- ---- 6
 
 -- whether the tokens are narrow is what the pass over the commands tells
-narrow-tokens : (c : Command) (n : List ℕ) (marked : Bool) → narrow (tokensOf c n marked) ≡ narrow (ownTokens c n)
-narrow-tokens c n true = narrow-append (ownTokens c n) (converted true) ∙ and-end (narrow (ownTokens c n))
-narrow-tokens c n false = rw (append-nil (ownTokens c n))
+narrow-tokens : (c : Command) (n : List ℕ) (marked : Bool) → narrow (tokensOf c n marked) ≡ narrow (commandRow c .tokens n)
+narrow-tokens c n true = narrow-append (commandRow c .tokens n) (converted true) ∙ and-end (narrow (commandRow c .tokens n))
+narrow-tokens c n false = rw (append-nil (commandRow c .tokens n))
 
 pub narrow-emitted : (c : List ℕ) (marks : List Bool) → narrow (emitted c marks) ≡ narrowCode c
 unfolding emitted narrowCode

@@ -9,16 +9,15 @@ use Rattle.slices.specs.Bytes.{bytesValue}
 use Rattle.semantics.specs.declared.Command.{Command}
 use Rattle.semantics.specs.Code.{commandOf, commandRow}
 use Rattle.semantics.specs.Operations.{op}
-use Rattle.token_table.specs.TokenRows.{ownTokens}
 use Rattle.token_form.specs.Fields.{Single}
 use Rattle.token_form.proofs.kind_of.Statement.{statement}
 use Rattle.token_form.proofs.kind_of.Tie as tie
 
-plain : (c : Command) (k : ℕ) → 2 < k → commandRow c .width ≡ 0 → eqb k 3 ≡ false → ((n : List ℕ) → ownTokens c n ≡ op k ∷ []) → Single c k
+plain : (c : Command) (k : ℕ) → 2 < k → commandRow c .width ≡ 0 → eqb k 3 ≡ false → ((n : List ℕ) → commandRow c .tokens n ≡ op k ∷ []) → Single c k
 plain c k h w e t = record { plain = λ _. (w, e, t); numbered = λ _ l. absurd (omega arith) }
 
 numbered : (c : Command) (k : ℕ) → k ≤ 2 → commandRow c .width ≡ 8 → eqb k 3 ≡ false
-    → ((n : List ℕ) → ownTokens c n ≡ record { kind = k; number = bytesValue n; key = [] } ∷ []) → Single c k
+    → ((n : List ℕ) → commandRow c .tokens n ≡ record { kind = k; number = bytesValue n; key = [] } ∷ []) → Single c k
 numbered c k h w e t = record { plain = λ l. absurd (omega arith); numbered = λ _ _. (w, e, t) }
 
 none : (c : Command) → Single c 0

@@ -12,7 +12,6 @@ use Rattle.semantics.specs.declared.Command.{Command}
 use Rattle.semantics.specs.Code.{commandOf, commandRow}
 use Rattle.semantics.specs.Operations.{op}
 use Rattle.semantics.specs.Parse.{operandBytes}
-use Rattle.token_table.specs.TokenRows.{ownTokens}
 use Rattle.token_form.proofs.Singles.{one-asks, one-counts, one-leaves, token}
 use Rattle.token_form.proofs.write_next.Statement.{statement}
 use Rattle.token_form.proofs.write_next.Tie as tie
@@ -34,20 +33,20 @@ unmarked k = not-true _ (k .before .if1 .taken)
 -- a token that carries nothing
 plain : (u : tie.Then2)
     → let k = u .before in
-    (commandRow (command (begin k)) .width ≡ 0) × (eqb (k .kind-of .result) 3 ≡ false) × ((n : List ℕ) → ownTokens (command (begin k)) n ≡ op (k .kind-of .result) ∷ [])
+    (commandRow (command (begin k)) .width ≡ 0) × (eqb (k .kind-of .result) 3 ≡ false) × ((n : List ℕ) → commandRow (command (begin k)) .tokens n ≡ op (k .kind-of .result) ∷ [])
 plain u = u .before .kind-of .ensures .plain (u .if2 .taken)
 
 -- a token of eight operand bytes
 numbered : (t : tie.Then3)
     → let k = t .before .before in
     (commandRow (command (begin k)) .width ≡ 8) × (eqb (k .kind-of .result) 3 ≡ false)
-    × ((n : List ℕ) → ownTokens (command (begin k)) n ≡ token (k .kind-of .result) (bytesValue n) ∷ [])
+    × ((n : List ℕ) → commandRow (command (begin k)) .tokens n ≡ token (k .kind-of .result) (bytesValue n) ∷ [])
 numbered t = t .before .before .kind-of .ensures .numbered (omega (arith, t .if3 .taken)) (t .before .if2 .left)
 
 -- with the number that was read
 number-read : (r : tie.After-read-le64)
     → let k = r .before .before .before in
-    ownTokens (command (begin k)) (operands (begin k)) ≡ token (k .kind-of .result) (r .read-le64 .result) ∷ []
+    commandRow (command (begin k)) .tokens (operands (begin k)) ≡ token (k .kind-of .result) (r .read-le64 .result) ∷ []
 number-read r =
     let k = r .before .before .before in
     let q = numbered (r .before) in
