@@ -9,9 +9,10 @@ use native.Mathlib.Omega.{arith}
 use borrow.Author.Tests.{le-ltb, leb-false, leb-true, lt-ltb, ne-eqb}
 use lib.Dec.{leb}
 use lib.ListN.{length}
+use Rattle.semantics.specs.Refusals.{firstOf, unless}
 use Rattle.semantics.specs.declared.Refusal.{Refusal}
 use Rattle.semantics.specs.declared.Terminal.{Terminal}
-use Rattle.semantics.specs.Check.{answered, checked, condition, firstOf, judged, judgedParsed, passedUnless, unless}
+use Rattle.semantics.specs.Check.{answered, checked, condition, judged, judgedParsed, passedUnless}
 use Rattle.semantics.specs.Code.{maxCode, maxTokens}
 use Rattle.semantics.specs.Oracle.{missing, oracleRule, oracles, oraclesIn, rule, terminals}
 use Rattle.semantics.specs.Parse.{Waiting, Walk, finished, fold, instructions, nothing, parse, treeStep}

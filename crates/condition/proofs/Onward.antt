@@ -8,10 +8,11 @@ use native.Mathlib.Omega.{arith}
 use borrow.Author.Tests.{eqb-false, leb-false, leb-true}
 use lib.Dec.{eqb, leb, ltb}
 use lib.ListN.{length, drop}
+use Rattle.semantics.specs.Refusals.{firstOf, unless}
 use Rattle.semantics.specs.declared.Checked.{Checked}
 use Rattle.semantics.specs.declared.Command.{Command}
 use Rattle.semantics.specs.declared.Refusal.{Refusal}
-use Rattle.semantics.specs.Check.{checked, firstOf, unless}
+use Rattle.semantics.specs.Check.{checked}
 use Rattle.semantics.specs.Code.{commandOf, commandRow, needMet, maxCode, maxTokens}
 use Rattle.semantics.specs.Parse.{Instruction, Walk, after, commandAt, fold, instructions, passes}
 use Rattle.summary.proofs.Counts.{given-one}

@@ -6,10 +6,10 @@ use mathlib.Core.Option.{Option, none, some}
 use mathlib.Core.Path.{_≡_}
 use lib.Dec.{eqb, leb, ltb}
 use lib.ListN.{length}
+use Rattle.semantics.specs.Refusals.{firstOf, unless}
 use Rattle.semantics.specs.declared.Refusal.{Refusal}
 use Rattle.semantics.specs.declared.Command.{Command}
 use Rattle.semantics.specs.declared.Checked.{Checked}
-use Rattle.semantics.specs.Check.{firstOf, unless}
 use Rattle.semantics.specs.Code.{maxCode, maxTokens}
 use Rattle.semantics.specs.Parse.{Walk, fold, instructions, walkStep}
 use Rattle.summary.specs.declared.Rule.{Rule}

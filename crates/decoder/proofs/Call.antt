@@ -6,7 +6,7 @@ use mathlib.Core.List.{List, _++_, reverse}
 use native.Mathlib.Omega.{arith}
 use borrow.Author.Tests.{le-leb, lt-leb}
 use lib.ListN.{length, length-append, length-reverse}
-use Rattle.slices.specs.Bytes.{All, Bytes}
+use Rattle.slices.specs.Bytes.{All, Bytes, over}
 use Rattle.semantics.specs.Operations.{Token}
 use Rattle.semantics.specs.declared.Decoded.{Decoded}
 use Rattle.semantics.specs.declared.Refusal.{Refusal}
@@ -15,7 +15,6 @@ use Rattle.semantics.specs.Code.{code, maxCode, maxTokens}
 use Rattle.semantics.specs.Token.{form}
 use Rattle.semantics.specs.Oracle.{oracleRule}
 use Rattle.semantics.specs.FromTokens.{Found, found, fromTokens, nothing}
-use Rattle.semantics.specs.Evaluate.{over}
 use Rattle.semantics.specs.Records.{Records, tokenAt, tokens, unsound}
 use Rattle.semantics.specs.Decode.{Decoding, Reading, decode, decoded, decodedAs, reading, unlessRuled}
 use Rattle.semantics.specs.Meaning.{CallAccepts, CallToldApart, CallUnambiguous, decodedNumber}

@@ -8,12 +8,12 @@ use native.Mathlib.Nat.{add-zero}
 use native.Mathlib.Omega.{arith}
 use lib.ListN.{length, getD, take, drop, length-append, take-append-drop}
 use lib.Seq.{drop-at, length-take-le, take-append-le, take-take}
+use Rattle.slices.specs.Bytes.{over}
 use Rattle.semantics.specs.declared.Refusal.{Refusal}
 use Rattle.semantics.specs.declared.Terminal.{Terminal}
 use Rattle.semantics.specs.Oracle.{among, missing, rule}
 use Rattle.semantics.specs.Operations.{Token}
 use Rattle.semantics.specs.Records.{Records, tokenAt}
-use Rattle.semantics.specs.Evaluate.{over}
 use Rattle.productions.specs.Before.{Whole, before}
 use Rattle.emission.specs.Pieces.{Met, Piece, bytesOf, isPriceOracle1W, joined, judged, part, pieces, piecesAfter, placedPiece, put, sizeOf, terminalOf, terminalsOf, unlessBroken}
 use Rattle.emission.specs.declared.Judged.{Judged}

@@ -17,12 +17,11 @@ ghost use mathlib.Core.Bool.{_||_};
 ghost use mathlib.Core.List.{List, [], _∷_, _++_};
 ghost use Prim.Native.Nat.{ℕ, _+_, _-_, _≤_, _<_};
 ghost use lib.ListN.{length, take, drop};
-ghost use Rattle.slices.specs.Bytes.{littleEndian};
+ghost use Rattle.slices.specs.Bytes.{littleEndian, over};
 ghost use Rattle.semantics.specs.Code.{maxTokens};
 ghost use Rattle.semantics.specs.Records.{recordsOf};
 ghost use Rattle.productions.specs.Before.{Numbered, Whole, tokensBefore};
 ghost use Rattle.productions.specs.Noted.{Fitting, Rows};
-ghost use Rattle.semantics.specs.Evaluate.{over};
 ghost use Rattle.semantics.specs.Oracle.{among};
 ghost use Rattle.emission.specs.Pieces.{Noticed, Placed, bytesOf, isPriceOracle1W, joined, judged, lead, pieces, placedPiece, put, sizeOf, terminalOf};
 

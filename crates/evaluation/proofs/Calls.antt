@@ -9,10 +9,11 @@ use lib.Dec.{leb}
 use lib.IntN.{ℤ}
 use lib.ListN.{length}
 use lib.Seq.{take-length}
+use Rattle.semantics.specs.Refusals.{firstOf, unless}
 use Rattle.slices.specs.Bytes.{Bytes}
 use Rattle.semantics.specs.declared.Checked.{Checked}
 use Rattle.semantics.specs.declared.Refusal.{Refusal}
-use Rattle.semantics.specs.Check.{checked, condition, firstOf, unless}
+use Rattle.semantics.specs.Check.{checked, condition}
 use Rattle.semantics.specs.Evaluate.{Evaluation, Lent, ended, endsSound, envSound, evaluated, evaluatedTree, initial, refusedCall, unlessRefused}
 use Rattle.semantics.specs.Evaluation.{evalArith, popping}
 use Rattle.semantics.specs.Parse.{fold, instructions}

@@ -8,14 +8,14 @@ use native.Mathlib.Omega.{arith}
 use lib.IntN.{ℤ, pos}
 use lib.ListN.{length, take, drop, getD, length-drop, take-append-drop}
 use lib.Seq.{drop-drop, length-take-le}
-use Rattle.slices.specs.Bytes.{bytesValue}
+use Rattle.slices.specs.Bytes.{bytesValue, over}
 use Rattle.index64.specs.Steps.{inRange}
 use Rattle.semantics.specs.declared.AmountList.{AmountList}
 use Rattle.semantics.specs.declared.Command.{Command}
 use Rattle.semantics.specs.declared.Value.{Value}
 use Rattle.semantics.specs.declared.Verdict.{Verdict}
 use Rattle.semantics.specs.Code.{commandRow, needMet}
-use Rattle.semantics.specs.Evaluate.{ended, endsSound, over}
+use Rattle.semantics.specs.Evaluate.{ended, endsSound}
 use Rattle.semantics.specs.Evaluation.{Env, Outcome, State, Terminals, err, lookedUp, ok, outcome, popping}
 use Rattle.semantics.specs.Operations.{binRow, idxRow, unRow}
 use Rattle.semantics.specs.Parse.{Instruction, after, commandAt, fold, instructions, operandsAt}

@@ -6,9 +6,8 @@ use native.Mathlib.Numerals.{add-one}
 use native.Mathlib.Omega.{arith}
 use lib.ListN.{length, getD, take, drop, length-append, length-map}
 use lib.Seq.{drop-drop, length-take-le, paste, take-at, take-suc, take-take}
-use Rattle.slices.specs.Bytes.{All}
+use Rattle.slices.specs.Bytes.{All, over}
 use Rattle.slices.proofs.Bytes.{all-take, part-length}
-use Rattle.semantics.specs.Evaluate.{over}
 use Rattle.semantics.specs.Write.{joined}
 use Rattle.semantics.proofs.Over.{rest-of}
 use Rattle.semantics.proofs.Placing.{Wide, length-joined}

@@ -5,7 +5,7 @@ use mathlib.Core.List.{List, [], _∷_, _++_, append-assoc, map, map-append}
 use native.Mathlib.Omega.{arith}
 use lib.ListN.{length, take, drop, length-append, length-map}
 use lib.Seq.{drop-at, length-take-le, take-at}
-use Rattle.semantics.specs.Evaluate.{over}
+use Rattle.slices.specs.Bytes.{over}
 use Rattle.semantics.specs.Records.{Records}
 use Rattle.semantics.specs.Token.{Token}
 use Rattle.semantics.specs.Write.{Writing, keysOf, leaves, placeIn}

@@ -6,13 +6,13 @@ use mathlib.Core.List.{[], _∷_, _++_}
 use lib.ListN.{length}
 use lib.Dec.{leb}
 use Rattle.semantics.specs.Operations.{binRow, unRow}
-use Rattle.semantics.specs.Check.{firstOf, judged, passedUnless, unless}
+use Rattle.semantics.specs.Check.{judged, passedUnless}
 use Rattle.semantics.specs.Evaluate.{Lent, evaluatedBy, evaluatedTree}
 use Rattle.semantics.specs.Code.{maxTokens}
 use Rattle.semantics.specs.Evaluation.{Env, Terminals, binaryStep, eval, evalArith, index, unaryStep}
 use Rattle.semantics.specs.Oracle.{oracleRule, oracles, rule, terminals}
 use Rattle.semantics.specs.FromTokens.{lookupExpr}
-use Rattle.semantics.specs.Refusals.{Refusal}
+use Rattle.semantics.specs.Refusals.{Refusal, firstOf, unless}
 use Rattle.semantics.specs.Token.{exprForm, form, idxForm}
 use Rattle.semantics.specs.Trees.{BinOp, AmountList, UnOp, Arith, Expr, IdxExpr}
 

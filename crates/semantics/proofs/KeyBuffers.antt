@@ -12,11 +12,10 @@ use borrow.Author.Tests.{eq-eqb, le-leb, lt-leb, lt-ltb, ne-eqb}
 use lib.Dec.{eqb, leb, ltb}
 use lib.ListN.{length, getD, take, drop, length-drop, length-map, length-take}
 use lib.Seq.{take-at}
-use Rattle.slices.specs.Bytes.{Bytes}
+use Rattle.slices.specs.Bytes.{Bytes, over}
 use Rattle.semantics.specs.Check.{Condition, condition}
 use Rattle.semantics.specs.Code.{maxTokens}
 use Rattle.semantics.specs.Decode.{Reading, decoded, decodedAs, readingSound}
-use Rattle.semantics.specs.Evaluate.{over}
 use Rattle.semantics.specs.Records.{Records, keyOf, soundAt, tokenAt, tokens, unsound, unsoundFrom}
 use Rattle.semantics.specs.Refusals.{Refusal}
 use Rattle.semantics.specs.Token.{Token, form, op}

@@ -1,11 +1,11 @@
 -- A list written over the front of a buffer.
+use Rattle.slices.specs.Bytes.{over}
 use Prim.Native.Nat.{ℕ, _≤_}
 use mathlib.Core.Path.{_≡_, ap, _∙_}
 use mathlib.Core.List.{List}
 use native.Mathlib.Omega.{arith}
 use lib.ListN.{length, drop, length-append, length-drop}
 use lib.Seq.{drop-at}
-use Rattle.semantics.specs.Evaluate.{over}
 
 pub length-over : (ws xs : List ℕ) → length ws ≤ length xs → length (over ws xs) ≡ length xs
 length-over ws xs h = simp (length-append, length-drop) (omega arith)

@@ -10,11 +10,11 @@ use borrow.Author.Tests.{le-leb, leb-true, lt-leb, ltb-false, ltb-true}
 use lib.ListN.{length}
 use lib.Dec.{leb, ltb}
 use Rattle.slices.specs.Bytes.{Bytes}
-use Rattle.semantics.specs.Check.{Checked, Condition, answered, checked, condition, firstOf, judged, judgedParsed, passedUnless, unless}
+use Rattle.semantics.specs.Check.{Checked, Condition, answered, checked, condition, judged, judgedParsed, passedUnless}
 use Rattle.semantics.specs.Code.{code, maxCode, maxTokens}
 use Rattle.semantics.specs.Oracle.{oracleRule, oracles}
 use Rattle.semantics.specs.Parse.{Parsed, parse}
-use Rattle.semantics.specs.Refusals.{Refusal}
+use Rattle.semantics.specs.Refusals.{Refusal, firstOf, unless}
 use Rattle.semantics.specs.Token.{form}
 use Rattle.semantics.specs.Trees.{Arith}
 use Rattle.semantics.proofs.Encodable.{Encodable}

@@ -11,8 +11,7 @@ use borrow.Author.Tests.{eq-eqb, eqb-true, ltb-false, ltb-true}
 use lib.Dec.{eqb, ltb}
 use lib.ListN.{length, getD, take, drop, length-append, length-map, List·getD-append, List·getD-map}
 use lib.Seq.{take-at, drop-at, drop-drop}
-use Rattle.slices.specs.Bytes.{All}
-use Rattle.semantics.specs.Evaluate.{over}
+use Rattle.slices.specs.Bytes.{All, over}
 use Rattle.semantics.specs.FromTokens.{sameBytes}
 use Rattle.semantics.specs.Records.{Records, keyOf}
 use Rattle.semantics.specs.Write.{Writing, indexOf, joined, keysFrom, keysOf, leaves, placeIn, withKey, withToken}

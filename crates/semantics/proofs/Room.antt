@@ -7,10 +7,11 @@ use native.Mathlib.Omega.{arith}
 use borrow.Author.Tests.{leb-true, lt-leb}
 use lib.ListN.{length}
 use lib.Dec.{leb}
+use Rattle.semantics.specs.Refusals.{firstOf, unless}
 use Rattle.slices.specs.Bytes.{Bytes}
 use Rattle.semantics.specs.declared.Decoded.{Decoded}
 use Rattle.semantics.specs.declared.Refusal.{Refusal}
-use Rattle.semantics.specs.Check.{Condition, condition, firstOf, unless}
+use Rattle.semantics.specs.Check.{Condition, condition}
 use Rattle.semantics.specs.Code.{maxTokens}
 use Rattle.semantics.specs.Decode.{decoded}
 use Rattle.semantics.specs.Records.{Records}

@@ -10,16 +10,15 @@ use borrow.Author.Tests.{le-leb, lt-ltb, ne-eqb}
 use lib.Dec.{eqb, leb, ltb}
 use lib.ListN.{length, getD, take, drop, length-map, List·getD-map}
 use lib.Seq.{ext-getD, getD-take, take-at}
-use Rattle.slices.specs.Bytes.{All, Bytes}
+use Rattle.slices.specs.Bytes.{All, Bytes, over}
 use Rattle.slices.proofs.Bytes.{all-getD}
-use Rattle.semantics.specs.Check.{Condition, condition, firstOf, unless}
+use Rattle.semantics.specs.Check.{Condition, condition}
 use Rattle.semantics.specs.Code.{code, maxCode}
 use Rattle.semantics.specs.Decode.{Decoded, Reading, decode, decoded, decodedAs, reading, unlessRuled}
-use Rattle.semantics.specs.Evaluate.{over}
 use Rattle.semantics.specs.FromTokens.{fromTokens}
 use Rattle.semantics.specs.Oracle.{oracleRule}
 use Rattle.semantics.specs.Records.{Records, keyOf, soundAt, tokenAt, tokenOf, tokens, unsound, unsoundFrom}
-use Rattle.semantics.specs.Refusals.{Refusal}
+use Rattle.semantics.specs.Refusals.{Refusal, firstOf, unless}
 use Rattle.semantics.specs.Token.{Token, form, narrow, op}
 use Rattle.semantics.specs.Trees.{Arith}
 use Rattle.semantics.specs.Write.{Writing, Written, keysOf, leaves, placeIn, roomFor, writesUnless, writing, wrote, written}

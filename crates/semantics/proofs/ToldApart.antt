@@ -9,14 +9,14 @@ use native.Mathlib.Omega.{arith}
 use borrow.Author.Tests.{le-leb}
 use lib.ListN.{length, drop, length-drop}
 use Rattle.slices.specs.Bytes.{All, Bytes}
-use Rattle.semantics.specs.Check.{answered, checked, condition, firstOf, judged, passedUnless}
+use Rattle.semantics.specs.Check.{answered, checked, condition, judged, passedUnless}
 use Rattle.semantics.specs.Code.{code, maxCode, maxTokens}
 use Rattle.semantics.specs.Decode.{Reading, decode, decoded, decodedAs, reading, unlessRuled}
 use Rattle.semantics.specs.FromTokens.{Found, found, fromTokens, nothing}
 use Rattle.semantics.specs.Meaning.{CallToldApart, FormAt, ListToldApart, Sound, TurnedDownAt, checkedNumber, decodedNumber, readingNumber}
 use Rattle.semantics.specs.Oracle.{Terminal, among, oracleRule, rule, terminals}
 use Rattle.semantics.specs.Records.{Records, tokens}
-use Rattle.semantics.specs.Refusals.{Refusal, numbered}
+use Rattle.semantics.specs.Refusals.{Refusal, firstOf, numbered}
 use Rattle.semantics.specs.Token.{Token, form}
 use Rattle.semantics.specs.Trees.{Arith}
 use Rattle.semantics.proofs.Canon.{canon}

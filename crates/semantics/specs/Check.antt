@@ -1,26 +1,17 @@
 -- CHECK, of the contents of its slice.
-use mathlib.Core.Bool.{Bool, cond}
+use mathlib.Core.Bool.{cond}
 use mathlib.Core.List.{List, [], _∷_}
 use mathlib.Core.Option.{Option, none, some}
 use Prim.Native.Nat.{ℕ}
 use lib.ListN.{length}
 use lib.Dec.{leb}
 use Rattle.semantics.specs.Trees.{Arith}
-use Rattle.semantics.specs.Refusals.{Refusal}
+use Rattle.semantics.specs.Refusals.{Refusal, firstOf, unless}
 use Rattle.semantics.specs.Code.{maxCode, maxTokens}
 use Rattle.semantics.specs.Parse.{Parsed, parse}
 use Rattle.semantics.specs.Token.{form}
 use Rattle.semantics.specs.Oracle.{oracleRule, oracles}
 pub use Rattle.semantics.specs.declared.Checked.{Checked}
-
--- the first refusal that falls, if one does
-abbrev pub firstOf : List (Option Refusal) → Option Refusal
-firstOf [] = none
-firstOf (none ∷ rs) = firstOf rs
-firstOf (some r ∷ rs) = some r
-
-abbrev pub unless : Bool → Refusal → Option Refusal
-unless holds r = cond holds none (some r)
 
 -- "1 to 5 in every call that takes a condition": a refusal, or the condition
 pub data Condition : Type 0 where

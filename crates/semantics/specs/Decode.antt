@@ -5,13 +5,13 @@ use mathlib.Core.Option.{Option, none, some}
 use mathlib.Core.List.{List, reverse}
 use lib.ListN.{length}
 use lib.Dec.{leb}
+use Rattle.slices.specs.Bytes.{over}
 use Rattle.semantics.specs.Trees.{Arith}
 use Rattle.semantics.specs.Refusals.{Refusal}
 use Rattle.semantics.specs.Code.{code, maxCode, maxTokens}
 use Rattle.semantics.specs.Token.{Token}
 use Rattle.semantics.specs.Oracle.{oracleRule}
 use Rattle.semantics.specs.FromTokens.{Found, found, nothing, fromTokens}
-use Rattle.semantics.specs.Evaluate.{over}
 use Rattle.semantics.specs.Records.{Records, tokens, unsound}
 pub use Rattle.semantics.specs.declared.Decoded.{Decoded}
 

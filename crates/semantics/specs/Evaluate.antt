@@ -1,22 +1,19 @@
 -- EVALUATE, of the contents of its slices: what it answers, and what the buffer for the checks holds then.
 use Prim.Native.Nat.{ℕ, _*_}
 use mathlib.Core.Bool.{Bool, true, _&&_}
-use mathlib.Core.List.{List, [], _∷_, _++_, reverse}
+use mathlib.Core.List.{List, [], _∷_, reverse}
 use mathlib.Core.Option.{Option, none, some}
-use lib.ListN.{length, drop}
+use lib.ListN.{length}
 use lib.Seq.{slice}
 use lib.Dec.{eqb, leb}
+use Rattle.slices.specs.Bytes.{over}
 use Rattle.semantics.specs.Trees.{Arith}
-use Rattle.semantics.specs.Refusals.{Refusal}
+use Rattle.semantics.specs.Refusals.{Refusal, firstOf, unless}
 use Rattle.semantics.specs.Oracle.{oracles}
 use Rattle.semantics.specs.Evaluation.{Amounts, Env, State, Outcome, ok, err, checkSize, evalArith, popping}
-use Rattle.semantics.specs.Check.{firstOf, unless, Condition, condition}
+use Rattle.semantics.specs.Check.{Condition, condition}
 pub use Rattle.semantics.specs.declared.Verdict.{Verdict}
 pub use Rattle.semantics.specs.declared.Evaluated.{Evaluated}
-
--- "Bytes of an output buffer beyond what is reported keep their contents"
-abbrev pub over : List ℕ → List ℕ → List ℕ
-over new old = new ++ drop (length new) old
 
 -- what Evaluate is lent beside the code: amounts and current index, witness bytes with the elements' ends, and room for the checks
 pub record Lent : Type 0 where

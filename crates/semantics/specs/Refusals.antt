@@ -1,6 +1,9 @@
 -- "A refusal is a number with its data; place and data are 0 where none is named": the table under "What a call gives back".
 -- An index and a count are unsigned; a signed operand is given as its 64 bits.
 use Prim.Native.Nat.{ℕ}
+use mathlib.Core.Bool.{Bool, cond}
+use mathlib.Core.List.{List, [], _∷_}
+use mathlib.Core.Option.{Option, none, some}
 use Rattle.word64.specs.Bits.{bitsOf}
 pub use Rattle.semantics.specs.declared.Refusal.{Refusal}
 pub use Rattle.semantics.specs.declared.Numbered.{Numbered}
@@ -45,3 +48,12 @@ numbered Refusal.PriceOverflow = refusal 40 0 0
 numbered Refusal.IndexStep = refusal 41 0 0
 -- R-4: "A negative final index gives 43"
 numbered Refusal.NegativeIndex = refusal 43 0 0
+
+-- the first refusal that falls, if one does
+abbrev pub firstOf : List (Option Refusal) → Option Refusal
+firstOf [] = none
+firstOf (none ∷ rs) = firstOf rs
+firstOf (some r ∷ rs) = some r
+
+abbrev pub unless : Bool → Refusal → Option Refusal
+unless holds r = cond holds none (some r)

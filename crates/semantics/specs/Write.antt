@@ -5,10 +5,10 @@ use mathlib.Core.Option.{Option, none, some}
 use mathlib.Core.List.{List, [], _∷_, _++_, map}
 use lib.ListN.{length}
 use lib.Dec.{eqb, leb, ltb}
-use Rattle.semantics.specs.Refusals.{Refusal}
+use Rattle.slices.specs.Bytes.{over}
+use Rattle.semantics.specs.Refusals.{Refusal, firstOf, unless}
 use Rattle.semantics.specs.Token.{Token, form, narrow}
-use Rattle.semantics.specs.Check.{firstOf, unless, Condition, condition}
-use Rattle.semantics.specs.Evaluate.{over}
+use Rattle.semantics.specs.Check.{Condition, condition}
 use Rattle.semantics.specs.FromTokens.{sameBytes}
 use Rattle.semantics.specs.Records.{Records}
 pub use Rattle.semantics.specs.declared.Written.{Written}

@@ -7,7 +7,7 @@ use mathlib.Core.List.{List, [], _∷_, _++_, map, append-assoc, append-nil}
 use lib.ListN.{List·getD-map, drop-of-length-le, length, take, drop, getD, set, length-append, length-drop, length-map}
 use lib.Seq.{getD-take, take-suc, drop-cons, set-at, take-all, take-at, drop-at, drop-drop, length-take-le}
 use borrow.Rule.Slice.PartMut.{midOf, putMid}
-use Rattle.semantics.specs.Evaluate.{over}
+use Rattle.slices.specs.Bytes.{over}
 use Rattle.semantics.proofs.Over.{length-over}
 
 -- a loop that writes the elements of vs, one a turn

@@ -5,9 +5,9 @@ use mathlib.Core.Path.{_≡_}
 use mathlib.Core.List.{List, [], _∷_}
 use lib.Dec.{eqb}
 use lib.ListN.{length}
+use Rattle.slices.specs.Bytes.{over}
 use Rattle.semantics.specs.Code.{commandRow}
 use Rattle.semantics.specs.declared.Command.{Command}
-use Rattle.semantics.specs.Evaluate.{over}
 use Rattle.semantics.specs.Operations.{Token}
 use Rattle.token_table.specs.TokenRows.{tokensOf}
 use Rattle.token_form.specs.Storing.{Columns, Room, Stored}

@@ -8,8 +8,8 @@ use native.Mathlib.Omega.{arith}
 use borrow.Rule.Slice.PartMut.{midOf, putMid}
 use lib.Seq.{drop-drop, getD-drop}
 use lib.ListN.{length, getD, take, drop, length-append, length-map, length-take}
+use Rattle.slices.specs.Bytes.{over}
 use Rattle.semantics.specs.declared.Command.{Command}
-use Rattle.semantics.specs.Evaluate.{over}
 use Rattle.semantics.specs.Code.{commandOf, commandRow, known}
 use Rattle.semantics.specs.Operations.{Token}
 use Rattle.semantics.specs.Parse.{Instruction, after, commandAt, fold, instructions, operandsAt}

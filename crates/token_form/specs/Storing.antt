@@ -4,9 +4,9 @@ use mathlib.Core.Bool.{Bool, false}
 use mathlib.Core.Path.{_≡_}
 use mathlib.Core.List.{List, [], _++_, map}
 use lib.ListN.{length, getD, drop}
+use Rattle.slices.specs.Bytes.{over}
 use Rattle.semantics.specs.declared.Command.{Command}
 use Rattle.semantics.specs.Operations.{Token}
-use Rattle.semantics.specs.Evaluate.{over}
 use Rattle.semantics.specs.Parse.{fold, instructions}
 use Rattle.token_table.specs.TokenRows.{tokensOf}
 use Rattle.semantics.specs.Write.{placeIn}

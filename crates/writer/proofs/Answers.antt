@@ -7,13 +7,13 @@ use native.Mathlib.Omega.{arith}
 use borrow.Author.Tests.{leb-true, leb-false}
 use lib.Dec.{leb}
 use lib.ListN.{length}
-use Rattle.slices.specs.Bytes.{Bytes}
+use Rattle.semantics.specs.Refusals.{firstOf, unless}
+use Rattle.slices.specs.Bytes.{Bytes, over}
 use Rattle.semantics.specs.declared.Checked.{Checked}
 use Rattle.semantics.specs.declared.Refusal.{Refusal}
 use Rattle.semantics.specs.declared.Written.{Written}
-use Rattle.semantics.specs.Check.{answered, checked, condition, firstOf, unless}
+use Rattle.semantics.specs.Check.{answered, checked, condition}
 use Rattle.semantics.specs.Code.{maxCode}
-use Rattle.semantics.specs.Evaluate.{over}
 use Rattle.semantics.specs.Operations.{Token}
 use Rattle.semantics.specs.Records.{Records, recordsOf}
 use Rattle.semantics.specs.Token.{form, narrow}

@@ -4,7 +4,7 @@ use mathlib.Core.Path.{_≡_, refl, ap, _∙_}
 use mathlib.Core.List.{List}
 use native.Mathlib.Omega.{arith}
 use lib.ListN.{length}
-use Rattle.semantics.specs.Evaluate.{over}
+use Rattle.slices.specs.Bytes.{over}
 use Rattle.semantics.specs.Write.{joined}
 use Rattle.semantics.proofs.Over.{length-over}
 use Rattle.keys.specs.Keys.{keysAt}

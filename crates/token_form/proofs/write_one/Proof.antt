@@ -5,7 +5,7 @@ use mathlib.Core.Path.{_≡_, refl}
 use mathlib.Core.List.{List, [], _∷_}
 use native.Mathlib.Omega.{arith}
 use lib.ListN.{length, set}
-use Rattle.semantics.specs.Evaluate.{over}
+use Rattle.slices.specs.Bytes.{over}
 use Rattle.token_form.proofs.write_one.Statement.{statement}
 use Rattle.token_form.proofs.write_one.Tie as tie
 

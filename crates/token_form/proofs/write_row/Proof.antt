@@ -5,7 +5,7 @@ use mathlib.Core.Path.{_≡_, refl}
 use mathlib.Core.List.{map, map-id}
 use native.Mathlib.Omega.{arith}
 use lib.ListN.{length, take, length-set}
-use Rattle.semantics.specs.Evaluate.{over}
+use Rattle.slices.specs.Bytes.{over}
 use Rattle.token_form.specs.Fields.{numberAt, placeAt}
 use Rattle.token_form.proofs.Over.{over-end, over-turn}
 use Rattle.token_form.proofs.write_row.Statement.{statement}
