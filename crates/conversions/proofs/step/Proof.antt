@@ -44,7 +44,7 @@ step-spec =
     (λ c.
     let n = c .before .before .before .before in
     let s = begin n in
-    too-large (s .args .code .now) (s .args .at) (n .next .result) (n .next .ensures) (c .before .before .enum-told2 .given .1) (c .before .read-le64 .result) (c .before .read-le64 .ensures .value) (c .if1 .taken))
+    too-large (s .args .code .now) (s .args .at) (n .next .result) (n .next .ensures) (c .before .before .enum-told2 .given .1) (c .before .read-le64 .result) (c .before .read-le64 .ensures .value) (omega (arith, c .if1 .taken)))
     (λ c κs. let s = begin (c .before .before .before .before .before) in (s .pre .1 .few, s .pre .1 .indexes-fit))
     (λ c. search needs)
     (λ c κs. let s = begin (c .before .before .before) in (s .pre .1 .few, s .pre .1 .indexes-fit))
@@ -70,7 +70,7 @@ step-spec =
     let s = begin n in
     let told = r .before .enum-told2 .given .1 in
     on n Command.IdxConst told _
-    (is-narrow (s .args .code .now) (s .args .at) (n .next .result) (n .next .ensures) told (r .read-le64 .result) (r .read-le64 .ensures .value) (c .before .before .before .before .if1 .left))
+    (is-narrow (s .args .code .now) (s .args .at) (n .next .result) (n .next .ensures) told (r .read-le64 .result) (r .read-le64 .ensures .value) (omega (arith, c .before .before .before .before .if1 .left)))
     (ended (s .args .waiting .now) (s .args .indexes) (s .args .marks .now) (s .args .count) _ (s .pre .1) _ (c .before .before .push .ensures)))
     (λ c. search needs)
     (λ c.
