@@ -15,12 +15,12 @@ use Rattle.semantics.specs.declared.Terminal.{Terminal}
 use Rattle.semantics.specs.Check.{answered, checked, condition, judged, judgedParsed, passedUnless}
 use Rattle.semantics.specs.Code.{maxCode, maxTokens}
 use Rattle.semantics.specs.Oracle.{missing, oracleRule, oracles, oraclesIn, rule, terminals}
-use Rattle.semantics.specs.Parse.{Waiting, Walk, finished, fold, instructions, nothing, parse, treeStep}
+use Rattle.semantics.specs.Parse.{Walk, finished, parse}
 use Rattle.semantics.specs.Token.{form}
 use Rattle.semantics.specs.Trees.{Arith, Expr, IdxExpr}
 use Rattle.summary.specs.declared.Rule.{Rule}
 use Rattle.summary.specs.declared.Summary.{Summary}
-use Rattle.condition.specs.Walk.{checkedAs, counted, ended, examined, foldTerminals, judgedSummary, judgedWalk, refusalOf, ruled, toldUnless, walked}
+use Rattle.condition.specs.Walk.{checkedAs, counted, ended, examined, foldTerminals, judgedSummary, judgedWalk, refusalOf, ruled, toldUnless}
 use Rattle.condition.proofs.Trees.{Beside, Both, forgot, sides, summarised, summary, summary-oracles, summary-rule, summary-tokens}
 
 foldTerminals-counted : (n : ℕ) (ts : List Terminal) → foldTerminals counted n ts ≡ n + oraclesIn ts

@@ -1,12 +1,10 @@
 -- What Evaluate answers, by Check's answer, the tests that follow it, and the run.
 use Prim.Native.Nat.{ℕ, _*_, _≤_, _<_}
-use mathlib.Core.Path.{_≡_, refl}
+use mathlib.Core.Path.{_≡_}
 use mathlib.Core.Bool.{Bool, true, false}
 use mathlib.Core.List.{List, [], _∷_}
-use native.Mathlib.Omega.{arith}
 use borrow.Author.Tests.{le-leb, lt-leb}
 use lib.Dec.{leb}
-use lib.IntN.{ℤ}
 use lib.ListN.{length}
 use lib.Seq.{take-length}
 use Rattle.semantics.specs.Refusals.{firstOf, unless}
@@ -19,10 +17,6 @@ use Rattle.semantics.specs.Evaluation.{evalArith, popping}
 use Rattle.semantics.specs.Parse.{fold, instructions}
 use Rattle.semantics.proofs.Passing.{Passed, answered-refused, passed}
 use Rattle.stacks.proofs.Run.{run-code}
-use Rattle.summary.specs.declared.Summary.{Summary}
-use Rattle.condition.specs.declared.Examined.{Examined}
-use Rattle.condition.specs.Walk.{examined}
-use Rattle.condition.proofs.Checks.{checked-walk}
 use Rattle.witness.specs.Elements.{leftOf, stateOf}
 use Rattle.evaluation.specs.Run.{Answers}
 use Rattle.stacks.specs.Run.{Run, runStep}

@@ -14,7 +14,7 @@ use Rattle.summary.specs.declared.Summary.{Summary}
 use Rattle.summary.specs.Step.{Small}
 use Rattle.summary.proofs.Bounds.{small-inside, small-next}
 use Rattle.condition.specs.Walk.{walked}
-use Rattle.condition.proofs.Steps.{Taken, Told, step-told, walk-ends, walk-follows, walkFrom}
+use Rattle.condition.proofs.Steps.{Told, step-told, walk-ends, walk-follows, walkFrom}
 use Rattle.condition.proofs.walk.Statement.{statement}
 use Rattle.condition.proofs.walk.Tie as tie
 

@@ -1,5 +1,4 @@
 -- The tests are the row's; the numbers are those of its equation.
-use Prim.Native.Nat.{_+_, _-_}
 use mathlib.Core.Path.{refl}
 use mathlib.Core.List.{[]}
 use borrow.Author.Needs.{needs}

@@ -1,5 +1,4 @@
 -- The tests are the row's; the numbers are those of its equation, and what the terminal changes is the callees'.
-use Prim.Native.Nat.{_+_, _-_}
 use mathlib.Core.Path.{refl, ap, _∙_}
 use mathlib.Core.List.{[], _∷_}
 use borrow.Author.Needs.{needs}

@@ -1,5 +1,4 @@
 -- The test is the row's; the numbers are those of its equation.
-use Prim.Native.Nat.{_+_, _-_}
 use mathlib.Core.Path.{refl, ap, _∙_}
 use mathlib.Core.List.{[], _∷_}
 use borrow.Author.Needs.{needs}

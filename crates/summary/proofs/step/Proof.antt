@@ -6,7 +6,6 @@ use Rattle.semantics.specs.declared.Command.{Command}
 use Rattle.semantics.specs.Code.{commandOf}
 use Rattle.semantics.proofs.Instructions.{unknown-byte}
 use Rattle.summary.specs.declared.Stepped.{Stepped}
-use Rattle.summary.specs.declared.Summary.{Summary}
 use Rattle.summary.specs.Step.{stepped}
 use Rattle.summary.proofs.Rows.{unknown-fails}
 use Rattle.summary.proofs.step.Statement.{statement}
