@@ -239,6 +239,9 @@ readings =
     ∷ (answer price env [] [] (replicate 111 1), bare 7 ++ 0 ∷ 0 ∷ []) ∷ (on price env [] [] (replicate 111 1) .buffer, replicate 111 1)
     -- the left side first
     ∷ (answer (eq big past) env [] [] [], 27 ∷ (2 ^ 63 - 1) ∷ 1 ∷ 0 ∷ 0 ∷ []) ∷ (answer (eq past big) env [] [] [], bare 43 ++ 0 ∷ 0 ∷ [])
+    -- the left operand first
+    ∷ (answer (eq (Expr.Binary BinOp.BitAnd big past) (Expr.Const 5)) env [] [] [], 27 ∷ (2 ^ 63 - 1) ∷ 1 ∷ 0 ∷ 0 ∷ [])
+    ∷ (answer (eq (Expr.Binary BinOp.BitAnd past big) (Expr.Const 5)) env [] [] [], bare 43 ++ 0 ∷ 0 ∷ [])
     -- index and count are given as they are, and a list's end comes before its marks
     ∷ (answer (eq (Expr.Lookup AmountList.Input (IdxExpr.Const (2 ^ 31 - 1))) big) env [] [] [], 20 ∷ (2 ^ 31 - 1) ∷ 1 ∷ 0 ∷ 0 ∷ [])
     ∷ (answer (eq (Expr.Lookup AmountList.Input (IdxExpr.Const (2 ^ 64 - 1))) big) env [] [] [], bare 41 ++ 0 ∷ 0 ∷ [])
