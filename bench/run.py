@@ -196,7 +196,7 @@ WHY = {
     "Check": "`Arith::new` judges the oracle rule of a tree that is there, and does not go into index expressions; ours reads every command with its operands, judges its need, and counts tokens.",
     "Evaluate": "the Rust goes over a tree that was built and judged before; ours is given bytes that may be anything, so that each call has a Check in it, and judges "
                 "every lent slot and end. Its operand stacks are of 8, 64 or 1,024 numbers, by the most that ever waits, and have to be cleared: the longest, where an expression nested to the "
-                "right keeps 64 or more operands waiting, takes 4,100 instructions.",
+                "right keeps 64 or more operands waiting, weighs most.",
     "Write": "it has a Check in it; where there are lookups, a pass that marks left operands of index Mul and Div; where there are oracle terminals, one that finds the different keys; then the "
              "pass that writes records of three fields and the keys. The Rust writes bytes.",
     "Decode": "a refusal must not write, so that a form is gone over four times: when the row before each place is noted, by the readers, by the judge of the oracle rule, and when its code is written.",
