@@ -1,15 +1,16 @@
 -- What Check answers, by the walk: `checked-walk`.
-use Prim.Native.Nat.{ℕ, suc, _+_}
-use mathlib.Core.Path.{_≡_, refl, ap, _∙_}
-use mathlib.Core.Bool.{Bool, true, false}
+use Prim.Native.Nat.{ℕ, suc, _+_, _≤_}
+use mathlib.Core.Path.{_≡_, refl, sym, ap, _∙_}
+use mathlib.Core.Bool.{Bool, true, false, cond}
 use mathlib.Core.Option.{Option, none, some}
 use mathlib.Core.List.{List, [], _∷_, _++_}
 use native.Mathlib.Nat.{zero-add}
 use native.Mathlib.Omega.{arith}
 use borrow.Author.Tests.{le-ltb, leb-false, leb-true, lt-ltb, ne-eqb}
-use lib.Dec.{leb}
+use lib.Dec.{leb, ltb}
 use lib.ListN.{length}
-use Rattle.semantics.specs.Refusals.{firstOf, unless}
+use Rattle.semantics.specs.Refusals.{firstOf, numbered, unless}
+use Rattle.semantics.specs.declared.Checked.{Checked}
 use Rattle.semantics.specs.declared.Refusal.{Refusal}
 use Rattle.semantics.specs.declared.Terminal.{Terminal}
 use Rattle.semantics.specs.Check.{answered, checked, condition, judged, judgedParsed, passedUnless}
@@ -20,7 +21,9 @@ use Rattle.semantics.specs.Token.{form}
 use Rattle.semantics.specs.Trees.{Arith, Expr, IdxExpr}
 use Rattle.summary.specs.declared.Rule.{Rule}
 use Rattle.summary.specs.declared.Summary.{Summary}
-use Rattle.condition.specs.Walk.{checkedAs, counted, ended, examined, foldTerminals, judgedSummary, judgedWalk, refusalOf, ruled, toldUnless}
+use Rattle.condition.specs.declared.Examined.{Examined}
+use Rattle.condition.specs.declared.Walked.{Walked}
+use Rattle.condition.specs.Walk.{checkedAs, counted, ended, examined, foldTerminals, judgedSummary, judgedWalk, refusalOf, ruled, toldUnless, walked}
 use Rattle.condition.proofs.Trees.{Beside, Both, forgot, sides, summarised, summary, summary-oracles, summary-rule, summary-tokens}
 
 foldTerminals-counted : (n : ℕ) (ts : List Terminal) → foldTerminals counted n ts ≡ n + oraclesIn ts
@@ -100,3 +103,37 @@ checked-walk c = go (leb (length c) maxCode) refl
         let w = sides c in
         rw (q, le-ltb maxCode (length c) (leb-true (length c) maxCode q), w .summary-is, w .trees-are) (ended-judged (w .both))
     go false q = rw (q, lt-ltb maxCode (length c) (leb-false (length c) maxCode q))
+
+-- 1 to 5
+abbrev Early : Examined → Type 0
+Early (Examined.Passed s) = Unit {0}
+Early (Examined.Refused r) = numbered r .number ≤ 5
+
+examined-early : (c : List ℕ) → Early (examined c)
+unfolding examined
+examined-early c = long (ltb maxCode (length c))
+  where
+    ruled : (r : Rule) (s : Summary) → Early (toldUnless (firstOf (refusalOf r ∷ [])) s)
+    ruled Rule.Unseen s = tt
+    ruled Rule.Kept s = tt
+    ruled Rule.WFirst s = omega arith
+    ruled Rule.Missing s = omega arith
+
+    few : (b : Bool) (s : Summary) → Early (toldUnless (firstOf (unless b Refusal.TooManyTokens ∷ refusalOf (s .rule) ∷ [])) s)
+    few true s = ruled (s .rule) s
+    few false s = omega arith
+
+    ends : (w : Walked) → Early (judgedWalk w)
+    ends (Walked.Refused at) = omega arith
+    ends (Walked.Ended s) = few (leb (s .tokens) maxTokens) s
+
+    long : (b : Bool) → Early (cond b (Examined.Refused Refusal.CodeTooLong) (judgedWalk (walked c)))
+    long true = omega arith
+    long false = ends (walked c)
+
+pub refused-early : (c : List ℕ) (r : Refusal) → checked c ≡ Checked.Refused r → numbered r .number ≤ 5
+refused-early c r e = go (examined c) (examined-early c) (sym (checked-walk c) ∙ e)
+  where
+    go : (x : Examined) → Early x → checkedAs x ≡ Checked.Refused r → numbered r .number ≤ 5
+    go (Examined.Passed s) h e = absurd (let z : _≡_ {A = ℕ} 0 1 = cc in omega arith)
+    go (Examined.Refused q) h e = let k : q ≡ r = cc in rw (← k) h

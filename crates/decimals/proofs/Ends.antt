@@ -1,7 +1,7 @@
 -- A text that is written from its last character on.
-use Prim.Native.Nat.{ℕ, suc, _+_, _-_, _/_, _≤_, _<_}
-use mathlib.Core.Path.{_≡_, refl, sym, ap, _∙_}
-use mathlib.Core.List.{List, [], _∷_, _++_, append-assoc, append-nil}
+use Prim.Native.Nat.{ℕ, suc, _-_, _/_, _≤_, _<_}
+use mathlib.Core.Path.{_≡_, sym, ap, _∙_}
+use mathlib.Core.List.{List, [], _∷_, _++_, append-nil}
 use native.Mathlib.Omega.{arith}
 use lib.ListN.{length, getD, set, take, length-append, length-set, length-take}
 use lib.Seq.{append-snoc, set-at, take-set-le, take-suc, take-length, length-take-le}
@@ -21,8 +21,8 @@ ending-more {old} {text} {now} {start} v e h =
     let s : start ≡ suc (start - 1) = omega arith in
     let l : length (take (start - 1) old) ≡ start - 1 = length-take-le (start - 1) old (omega (arith, e .ends)) in
     let split : take start old ++ text ≡ take (start - 1) old ++ getD old (start - 1) 0 ∷ text =
-        ap (λ (k : ℕ). take k old ++ text) s ∙ ap (λ (xs : List ℕ). xs ++ text) (take-suc old (start - 1) 0 (omega (arith, e .ends)))
-        ∙ append-snoc (take (start - 1) old) (getD old (start - 1) 0) text in
+    ap (λ (k : ℕ). take k old ++ text) s ∙ ap (λ (xs : List ℕ). xs ++ text) (take-suc old (start - 1) 0 (omega (arith, e .ends)))
+    ∙ append-snoc (take (start - 1) old) (getD old (start - 1) 0) text in
     record {
       is = ap (λ (xs : List ℕ). set xs (start - 1) v) (e .is ∙ split) ∙ set-at (take (start - 1) old) (getD old (start - 1) 0) text v (start - 1) l;
       ends = omega (arith, e .ends);

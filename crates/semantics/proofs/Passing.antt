@@ -2,11 +2,11 @@
 use Prim.Native.Nat.{ℕ, _*_, _<_, _≤_}
 use mathlib.Core.Bool.{Bool, true, false, cond}
 use mathlib.Core.Option.{Option, none, some}
-use mathlib.Core.Path.{_≡_, refl, ap}
+use mathlib.Core.Path.{_≡_, refl, sym, ap, _∙_}
 use mathlib.Core.Logic.{_⊎_, inl, inr}
 use mathlib.Core.List.{List, [], _∷_}
 use native.Mathlib.Omega.{arith}
-use borrow.Author.Tests.{le-leb, leb-true, lt-leb, ltb-false, ltb-true}
+use borrow.Author.Tests.{le-leb, leb-false, leb-true, lt-leb, ltb-false, ltb-true}
 use lib.ListN.{length}
 use lib.Dec.{leb, ltb}
 use Rattle.slices.specs.Bytes.{Bytes}
@@ -83,6 +83,17 @@ passed b h t m e =
 pub too-long : (b : List ℕ) → maxCode < length b → condition b ≡ Condition.refused Refusal.CodeTooLong
 unfolding condition
 too-long b h = rw (lt-leb (length b) maxCode h)
+
+-- code that passes is not
+pub passed-short : (b : List ℕ) (t m : ℕ) → checked b ≡ Checked.Passed t m → length b ≤ maxCode
+unfolding checked
+passed-short b t m e = go (leb (length b) maxCode) refl
+  where
+    go : (x : Bool) → leb (length b) maxCode ≡ x → length b ≤ maxCode
+    go true q = leb-true (length b) maxCode q
+    go false q =
+        let r : Checked.Refused Refusal.CodeTooLong ≡ Checked.Passed t m = ap answered (sym (too-long b (leb-false (length b) maxCode q))) ∙ e in
+        absurd (let z : _≡_ {A = ℕ} 0 1 = cc in omega arith)
 
 pub too-many : (a : Arith) → maxTokens < length (form a) → judged a ≡ Condition.refused Refusal.TooManyTokens
 unfolding judged

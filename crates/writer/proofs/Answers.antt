@@ -4,22 +4,19 @@ use mathlib.Core.Bool.{Bool, true, false}
 use mathlib.Core.Path.{_≡_, refl, sym, ap, _∙_}
 use mathlib.Core.List.{List, [], _∷_, _++_, map}
 use native.Mathlib.Omega.{arith}
-use borrow.Author.Tests.{leb-true, leb-false}
-use lib.Dec.{leb}
 use lib.ListN.{length}
 use Rattle.semantics.specs.Refusals.{firstOf, unless}
 use Rattle.slices.specs.Bytes.{Bytes, over}
 use Rattle.semantics.specs.declared.Checked.{Checked}
 use Rattle.semantics.specs.declared.Refusal.{Refusal}
 use Rattle.semantics.specs.declared.Written.{Written}
-use Rattle.semantics.specs.Check.{answered, checked, condition}
-use Rattle.semantics.specs.Code.{maxCode}
+use Rattle.semantics.specs.Check.{checked, condition}
 use Rattle.semantics.specs.Operations.{Token}
 use Rattle.semantics.specs.Records.{Records, recordsOf}
 use Rattle.semantics.specs.Token.{form, narrow}
 use Rattle.semantics.specs.Trees.{Arith}
 use Rattle.semantics.specs.Write.{Writing, Wrote, joined, keysOf, placeIn, roomFor, writesUnless, writing, wrote}
-use Rattle.semantics.proofs.Passing.{Passed, answered-refused, passed, too-long}
+use Rattle.semantics.proofs.Passing.{Passed, answered-refused, passed, passed-short}
 use Rattle.semantics.proofs.Forms.{form-keys}
 use Rattle.semantics.proofs.Placing.{keys-few}
 use Rattle.semantics.proofs.Room.{has-room}
@@ -41,14 +38,7 @@ refused-first b old r e = rw (answered-refused (condition b) r e)
 
 -- positions in it are 16 bits wide
 pub short : (b : List ℕ) (t m : ℕ) → checked b ≡ Checked.Passed t m → length b < 2 ^ 16
-unfolding checked
-short b t m e = go (leb (length b) maxCode) refl
-  where
-    go : (x : Bool) → leb (length b) maxCode ≡ x → length b < 2 ^ 16
-    go true q = omega (arith, leb-true (length b) maxCode q)
-    go false q =
-        let r : Checked.Refused Refusal.CodeTooLong ≡ Checked.Passed t m = ap answered (sym (too-long b (leb-false (length b) maxCode q))) ∙ e in
-        absurd (let z : _≡_ {A = ℕ} 0 1 = cc in omega arith)
+short b t m e = omega (arith, passed-short b t m e)
 
 -- a condition that passes is a tree
 module _ (b : List ℕ) (bytes : Bytes b) (old : Records) (t m : ℕ) (passes : checked b ≡ Checked.Passed t m) where

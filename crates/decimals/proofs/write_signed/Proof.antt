@@ -1,6 +1,6 @@
 -- The bits from 2^63 on are those of negative numbers.
 use borrow.Author.Needs.{needs}
-use Prim.Native.Nat.{ℕ, _+_, _-_, _≤_, _<_}
+use Prim.Native.Nat.{_+_, _-_, _<_}
 use mathlib.Core.Path.{_≡_}
 use mathlib.Core.List.{_∷_}
 use native.Mathlib.Omega.{arith}
