@@ -1,6 +1,6 @@
 # make run proves what the worked examples need and prints them; make test is the whole gate.
 # make compare and make bench ask the published Rust too; RUST_SOURCE names the folder of its source.
-.PHONY: run test edits compare bench memcheck vectors toolchain listed archive
+.PHONY: run test edits compare bench memcheck vectors toolchain listed archive listing
 
 run: toolchain
 	@tests/prove.sh check examples
@@ -16,6 +16,10 @@ edits: toolchain
 # target/staticlib/libcovenant.a, for the programs that link it
 archive: toolchain
 	@tests/prove.sh staticlib covenant
+
+# target/bin/listing, which prints the sheet of the condition code on its standard input
+listing: toolchain
+	@tests/prove.sh check listing
 
 # a million generated cases, both sides in one process
 compare: archive

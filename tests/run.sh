@@ -24,6 +24,7 @@ done
 test "$(cat "$work/status")" = 0
 make --no-print-directory -s archive
 tests/boundary/run.sh
+tests/listing/run.py target/bin/listing
 tests/vectors/generate.py target/cases >/dev/null
 cmp target/cases crates/vectors/data/cases
 echo "vectors: the cases are what tests/vectors/generate.py writes"

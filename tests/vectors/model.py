@@ -170,6 +170,28 @@ def check(code):
         return r.answer[:2]
 
 
+def operand(c, data):
+    """What R-10 prints of a command's operand bytes: "the constant, or an oracle's time, unsigned; otherwise blanks"."""
+    if c == 1:
+        return str(word(data))
+    if c == 16:
+        return str(signed(word(data)))
+    return str(word(data[32:])) if c in (32, 33) else ""
+
+
+def sheet(code):
+    """R-10: the bytes that are printed."""
+    number = check(code)[0]
+    if number:
+        return b"%29d\n" % number
+    lines, at = [], 0
+    while at < len(code):
+        data = code[at + 1 : at + 1 + operand_bytes(code[at])]
+        lines.append("%5d %2d %20s\n" % (at, code[at], operand(code[at], data)))
+        at += 1 + len(data)
+    return "".join(lines).encode()
+
+
 def quotient_and_remainder(a, b):
     """a = b * q + r, 0 <= r < |b|."""
     r = a % abs(b)

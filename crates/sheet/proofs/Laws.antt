@@ -6,7 +6,7 @@ use mathlib.Core.List.{List, [], _∷_, _++_}
 use native.Mathlib.Omega.{arith}
 use borrow.Author.Tests.{ltb-false, ltb-true}
 use lib.Dec.{ltb}
-use lib.ListN.{drop, length, length-append, length-drop, length-take, take}
+use lib.ListN.{drop, length, length-append, length-drop, take}
 use lib.Seq.{take-at}
 use Rattle.slices.specs.Bytes.{All, Bytes, over}
 use Rattle.semantics.specs.declared.Checked.{Checked}
@@ -75,7 +75,6 @@ same-sheet c more h = long-sheet (c ++ more) (rw length-append (omega arith)) �
 -- the first n bytes of a buffer are the sheet that was written over its front
 pub record Written (c now : List ℕ) (n : ℕ) : Type 0 where
   pub inside : n ≤ length now
-  pub count : n ≡ length (take n now)
   pub is : take n now ≡ sheet c
 
 pub written : (c old now : List ℕ) (n : ℕ) → n ≡ length (sheet c) → now ≡ over (sheet c) old → Written c now n
@@ -83,6 +82,5 @@ written c old now n e q =
     let l : length now ≡ length (sheet c) + (length old - length (sheet c)) = rw q (simp (length-append, length-drop) refl) in
     record {
       inside = omega arith;
-      count = simp length-take (omega arith);
       is = rw q (take-at (sheet c) (drop (length (sheet c)) old) n (sym e));
     }

@@ -1,5 +1,7 @@
 -- What is printed is the sheet (`written`).
 use borrow.Author.Needs.{needs}
+use native.Mathlib.Omega.{arith}
+use lib.ListN.{length-take}
 use Rattle.sheet.proofs.Laws.{Written, written}
 use Rattle.listing.proofs.list.Statement.{statement}
 use Rattle.listing.proofs.list.Tie as tie
@@ -12,7 +14,7 @@ list-spec =
     tie.close
     (tie.spec
     (λ c κs. search needs)
-    (λ c. sheet-written c .inside)
-    (λ c. sheet-written (c .before) .count)
+    (λ c. omega (arith, sheet-written c .inside))
+    (λ c. simp length-take (omega (arith, sheet-written (c .before) .inside)))
     (λ c κs. sheet-written (c .before) .is)
     (λ c. search needs))
