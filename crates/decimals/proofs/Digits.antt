@@ -12,6 +12,8 @@ use lib.ListN.{length, length-append}
 use mir.Syntax.{w64}
 use mir.Val.{toZ}
 use mir.Facts.{toZ-neg, toZ-pos}
+use Rattle.slices.specs.Bytes.{All}
+use Rattle.slices.proofs.Bytes.{all-join}
 use Rattle.word64.specs.Bits.{signedOf}
 use Rattle.decimals.specs.Decimal.{decimal, digit, digits, digitsIn, hyphen, signed}
 
@@ -83,6 +85,44 @@ digits-value (suc k) n h =
 pub decimal-value : (n : ℕ) → valueFrom 0 (decimal n) ≡ n
 unfolding decimal
 decimal-value n = rw (value-append 0 (digits (n / 10)) (digit n), digits-value (n / 10) (n / 10) (omega arith)) (omega arith)
+
+-- ---- digits, and no zero in front
+
+abbrev IsDigit : ℕ → Type 0
+IsDigit d = (48 ≤ d) × (d ≤ 57)
+
+digits-are : (k n : ℕ) → n ≤ k → All IsDigit (digits n)
+digits-are zero n h = let z : n ≡ 0 = omega arith in rw (digits-none n z) tt
+digits-are (suc k) n h =
+    if-zero n (λ z. rw (digits-none n z) tt) λ z.
+    rw (digits-some n z) (all-join IsDigit (digits (n / 10)) (digit n ∷ []) (digits-are k (n / 10) (omega arith)) ((omega arith, omega arith), tt))
+
+pub decimal-digits : (n : ℕ) → All IsDigit (decimal n)
+unfolding decimal
+decimal-digits n = all-join IsDigit (digits (n / 10)) (digit n ∷ []) (digits-are (n / 10) (n / 10) (omega arith)) ((omega arith, omega arith), tt)
+
+abbrev Leads : List ℕ → Type 0
+Leads [] = Unit {0}
+Leads (d ∷ ds) = 48 < d
+
+leads-more : (ds : List ℕ) (d : ℕ) → Leads ds → (ds ≡ [] → 48 < d) → Leads (ds ++ d ∷ [])
+leads-more [] d l h = h refl
+leads-more (e ∷ ds) d l h = l
+
+digits-lead : (k n : ℕ) → n ≤ k → Leads (digits n)
+digits-lead zero n h = let z : n ≡ 0 = omega arith in rw (digits-none n z) tt
+digits-lead (suc k) n h =
+    if-zero n (λ z. rw (digits-none n z) tt) λ z.
+    rw (digits-some n z) (leads-more (digits (n / 10)) (digit n) (digits-lead k (n / 10) (omega arith)) (last z))
+  where
+    -- of one digit there is only the number itself
+    last : (n ≡ 0 → ⊥) → digits (n / 10) ≡ [] → 48 < digit n
+    last z e = let q : 0 ≡ n / 10 = rw e at (digits-value (n / 10) (n / 10) (omega arith)) in omega arith
+
+-- other than 0 itself, no number begins with a 0
+pub decimal-lead : (n : ℕ) → (n ≡ 0 → ⊥) → Leads (decimal n)
+unfolding decimal
+decimal-lead n h = rw (← digits-some n h) (digits-lead n n (omega arith))
 
 -- ---- signed numbers, by their bits
 
