@@ -7,6 +7,7 @@ use borrow.Rule.Slice.PartMut.{putMid}
 use lib.ListN.{length, drop, drop-of-length-le, getD, length-append, length-drop, length-take}
 use Rattle.slices.specs.Bytes.{Bytes, over}
 use Rattle.slices.proofs.Bytes.{all-drop, all-take}
+use Rattle.slices.proofs.Front.{Front, front-lent, front-none}
 use Rattle.semantics.specs.declared.Checked.{Checked}
 use Rattle.semantics.specs.declared.Refusal.{Refusal}
 use Rattle.semantics.specs.Check.{checked}
@@ -19,7 +20,6 @@ use Rattle.condition.proofs.Checks.{refused-early}
 use Rattle.condition.proofs.Position.{Position, passes-on, position-below, position-known, position-next, position-start}
 use Rattle.sheet.specs.Sheet.{commandLine, commandLines, lineFeed, lines, operand, printed, refusalLine, sheet}
 use Rattle.sheet.specs.Fields.{Whole, allLines, instructionAt, lineAt}
-use Rattle.sheet.proofs.Columns.{Front, front-lent, front-none}
 use Rattle.sheet.proofs.Wide.{line-wide, operand-few, refusal-wide}
 
 -- the lines from a position on

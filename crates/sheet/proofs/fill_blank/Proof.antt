@@ -3,8 +3,9 @@ use Prim.Native.Nat.{ℕ, _-_, _≤_}
 use mathlib.Core.Path.{_≡_, ap, _∙_}
 use native.Mathlib.Omega.{arith}
 use lib.ListN.{length, length-set, replicate}
+use Rattle.slices.proofs.Front.{Front, front-length, front-none, front-whole}
 use Rattle.sheet.specs.Sheet.{blank}
-use Rattle.sheet.proofs.Columns.{Front, front-blank, front-length, front-none, front-whole}
+use Rattle.sheet.proofs.Columns.{front-blank}
 use Rattle.sheet.proofs.fill_blank.Statement.{statement}
 use Rattle.sheet.proofs.fill_blank.Tie as tie
 

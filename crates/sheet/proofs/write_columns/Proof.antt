@@ -6,10 +6,11 @@ use mathlib.Core.List.{List, [], _∷_, _++_}
 use native.Mathlib.Omega.{arith}
 use borrow.Rule.Slice.PartMut.{putMid}
 use lib.ListN.{length, length-drop, length-set, length-take, set}
+use Rattle.slices.proofs.Front.{Front, front-length, front-none, front-set, front-whole}
 use Rattle.decimals.specs.Decimal.{decimal}
 use Rattle.sheet.specs.Sheet.{blank, columns, lineFeed, rightAligned}
 use Rattle.sheet.specs.Fields.{textOf}
-use Rattle.sheet.proofs.Columns.{Front, front-column, front-length, front-none, front-set, front-whole}
+use Rattle.sheet.proofs.Columns.{front-column}
 use Rattle.sheet.proofs.write_columns.Statement.{statement}
 use Rattle.sheet.proofs.write_columns.Tie as tie
 

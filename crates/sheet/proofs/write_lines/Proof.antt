@@ -7,7 +7,7 @@ use native.Mathlib.Omega.{arith}
 use lib.ListN.{length, length-drop, length-take}
 use Rattle.slices.specs.Bytes.{Bytes}
 use Rattle.slices.proofs.Bytes.{all-of}
-use Rattle.sheet.proofs.Columns.{front-length}
+use Rattle.slices.proofs.Front.{front-length}
 use Rattle.sheet.proofs.Lines.{Progress, all-there, fewer, none-yet, one-more, progress-whole}
 use Rattle.sheet.proofs.write_lines.Statement.{statement}
 use Rattle.sheet.proofs.write_lines.Tie as tie

@@ -6,11 +6,12 @@ use mathlib.Core.List.{_∷_, [], _++_}
 use native.Mathlib.Omega.{arith}
 use lib.ListN.{length, length-take}
 use Rattle.slices.specs.Bytes.{over}
+use Rattle.slices.proofs.Front.{front-none, front-set}
 use Rattle.decimals.specs.Decimal.{decimal}
 use Rattle.decimals.proofs.Digits.{decimal-few}
 use Rattle.semantics.specs.declared.Numbered.{Numbered}
 use Rattle.sheet.specs.Sheet.{lineFeed, refusalLine, rightAligned}
-use Rattle.sheet.proofs.Columns.{front-column, front-none, front-set}
+use Rattle.sheet.proofs.Columns.{front-column}
 use Rattle.sheet.proofs.write_refusal.Statement.{statement}
 use Rattle.sheet.proofs.write_refusal.Tie as tie
 
