@@ -4,12 +4,18 @@
 # seconds are those since the last one (srand answers the second at which it was called before). Ends with rt's status.
 set -u
 cd "$(dirname "$0")/.."
-# the crates of the repository that the words reach: those named and those of their lines in crates.txt, or all
+# how many crates of the repository the words reach: those named and all that they stand on (crates.txt), or all
 if [ $# -gt 1 ]; then
-    total=0
-    for crate in $(for name in "$@"; do echo "$name" && sed -n "s/^$name: *//p" crates.txt; done | tr ' ' '\n' | sort -u); do
-        if [ -d "crates/$crate" ]; then total=$((total + 1)); fi
-    done
+    total=$(awk -v words="$*" -F': *' '
+        function reach(crate, i, n, below) {
+            if (!(crate in uses) || crate in seen) return
+            seen[crate] = 1
+            total++
+            n = split(uses[crate], below, " ")
+            for (i = 1; i <= n; i++) reach(below[i])
+        }
+        { uses[$1] = $2 }
+        END { n = split(words, word, " "); for (i = 2; i <= n; i++) reach(word[i]); print total + 0 }' crates.txt)
 else
     total=$(grep -c : crates.txt)
 fi
