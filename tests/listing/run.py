@@ -46,16 +46,18 @@ def edge_codes():
     """Constants, index constants and times at their edges."""
     for n in EDGES:
         yield model.code_of((48, const(n), const(5)))
-    for n in list(INDEX_EDGES) + [2**63, 2**64 - 1]:
+    for n in INDEX_EDGES:
         yield model.code_of((49, (18, (1, n)), const(0)))
-    for t in list(TIMES) + [0, 2**63, 2**64 - 1]:
+    for t in TIMES:
         yield model.code_of((50, (32, KEY, t), (33, KEY[::-1], t)))
 
 
 def long_codes():
-    """At the bound and beyond it: of tokens (one constant, then Invert), and of bytes."""
+    """At the bound and beyond it: of tokens (one constant and then Invert, or BitAnd with others), and of bytes."""
     for n in (1, 99, 100, 1000, 1020, 1021, 1022):
         yield model.code_of((16, 5)) + bytes([30]) * n + model.code_of((16, 5)) + b"\x30"
+    for n in (509, 510, 511):
+        yield model.code_of(const(-1)) + (model.code_of(const(-n)) + b"\x1b") * n + model.code_of(const(5)) + b"\x34"
     for n in (model.MAX_CODE - 1, model.MAX_CODE, model.MAX_CODE + 1, model.MAX_CODE + 2, 20000, 100000):
         yield b"\x02" * n
         yield (bytes([16] + [0] * 8) * n)[:n]
