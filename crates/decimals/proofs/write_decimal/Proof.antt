@@ -30,7 +30,7 @@ module _ (t : tie.In-loop Inv-loop μ-loop) where
   fits = rw length-set (s .pre)
 
   room : 0 < a .loop .start
-  room = partly-room (s .args .n) old fits (a .loop .out) (a .loop .start) (a .loop .rest) (a .loop .inv) (t .loop-test .taken)
+  room = partly-room (s .args .n) old fits (a .loop .out) (a .loop .start) (a .loop .rest) (a .loop .inv) (omega (arith, t .loop-test .taken))
 
 pub write-decimal-spec : {M : Type 1} → statement M
 write-decimal-spec =
@@ -49,7 +49,7 @@ write-decimal-spec =
     (λ c.
     let t = c .before in
     let l = t .before .loop in
-    partly-more (s t .args .n) (old t) (fits t) (l .out) (l .start) (l .rest) (l .inv) (t .loop-test .taken) _ (c .digit2 .ensures))
+    partly-more (s t .args .n) (old t) (fits t) (l .out) (l .start) (l .rest) (l .inv) (omega (arith, t .loop-test .taken)) _ (c .digit2 .ensures))
     (λ c. rw length-set at (ending-length (c .before .loop .inv .there)))
     (λ c.
     let a = c .before in
