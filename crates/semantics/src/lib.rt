@@ -151,6 +151,12 @@ pub enum Written {
     Refused(Refusal),
 }
 
+// The number of bytes of the script.
+pub enum ScriptWritten {
+    Script(usize),
+    Refused(Refusal),
+}
+
 // The length of the code, and the start of the tail that is its token form.
 pub enum Decoded {
     Code { bytes: usize, start: usize },

@@ -24,7 +24,7 @@ use Rattle.token_form.specs.Fields.{bit, numberAt, payload, placeAt}
 use Rattle.semantics.specs.Parse.{operandBytes}
 use Rattle.token_table.specs.TokenRows.{tokensOf, tokenRow}
 use Rattle.token_form.specs.Storing.{Columns, Emission, Room, Stored, columnsOf, emitStep, emitted}
-use Rattle.token_form.proofs.Over.{over-lent, over-rest}
+use Rattle.slices.proofs.Front.{over-lent, over-rest}
 use Rattle.token_form.proofs.Keyed.{placeFor, tokens-places}
 use Rattle.token_form.proofs.Rows.{tokens-kinds, tokens-length, tokens-numbers}
 
