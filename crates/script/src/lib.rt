@@ -12,7 +12,8 @@ ghost use mathlib.Core.List.{[], _∷_};
 ghost use Prim.Native.Nat.{_+_, _≤_};
 ghost use lib.ListN.{length, take, drop};
 ghost use Rattle.slices.specs.Bytes.{Front};
-ghost use Rattle.semantics.specs.Operations.{binRow, bytes8, bytes32, cmpRow, idxRow, listRow, num, unRow};
+ghost use Rattle.semantics.specs.declared.AmountList.{AmountList};
+ghost use Rattle.semantics.specs.Operations.{binRow, bytes8, bytes32, cmpRow, idxRow, listRow, num, op, unRow};
 ghost use Rattle.script.specs.Rows.{RowOf};
 ghost use Rattle.script.specs.Script.{numberWidth, script};
 
@@ -27,6 +28,16 @@ pub struct ScriptRow {
 
 // ---- rows of opcodes
 
+// Nothing.
+pub fn no_row() -> ScriptRow
+    ensures { λ r. ⌜ RowOf [] r ⌝ }
+{
+    ScriptRow {
+        count: 0,
+        bytes: [0; 7],
+    }
+}
+
 // One opcode.
 pub fn opcode(a: u8) -> ScriptRow
     ensures { λ r. ⌜ RowOf (a ∷ []) r ⌝ }
@@ -34,6 +45,24 @@ pub fn opcode(a: u8) -> ScriptRow
     ScriptRow {
         count: 1,
         bytes: [a, 0, 0, 0, 0, 0, 0],
+    }
+}
+
+pub fn two_opcodes(a: u8, b: u8) -> ScriptRow
+    ensures { λ r. ⌜ RowOf (a ∷ b ∷ []) r ⌝ }
+{
+    ScriptRow {
+        count: 2,
+        bytes: [a, b, 0, 0, 0, 0, 0],
+    }
+}
+
+pub fn four_opcodes(a: u8, b: u8, c: u8, d: u8) -> ScriptRow
+    ensures { λ r. ⌜ RowOf (a ∷ b ∷ c ∷ d ∷ []) r ⌝ }
+{
+    ScriptRow {
+        count: 4,
+        bytes: [a, b, c, d, 0, 0, 0],
     }
 }
 
@@ -51,10 +80,19 @@ fn verified(a: u8) -> ScriptRow
 fn verified_then(a: u8, b: u8) -> ScriptRow
     ensures { λ r. ⌜ RowOf (a ∷ 0x51 ∷ 0x88 ∷ b ∷ []) r ⌝ }
 {
-    ScriptRow {
-        count: 4,
-        bytes: [a, opcodes::PUSHNUM_1, opcodes::EQUALVERIFY, b, 0, 0, 0],
-    }
+    four_opcodes(a, opcodes::PUSHNUM_1, opcodes::EQUALVERIFY, b)
+}
+
+// The amount at the current index: the index, and the lookup.
+pub fn current_row() -> ScriptRow
+    ensures { λ r. ⌜ RowOf (script (op 4 ∷ listRow AmountList.Input .form)) r ⌝ }
+{
+    four_opcodes(
+        opcodes::PUSHCURRENTINPUTINDEX,
+        opcodes::INSPECTINPUTVALUE,
+        opcodes::PUSHNUM_1,
+        opcodes::EQUALVERIFY,
+    )
 }
 
 // What an index operation writes after its operands.

@@ -18,7 +18,7 @@ use Rattle.semantics.proofs.Placing.{keys-append}
 use Rattle.keys.specs.Keys.{codeKeys, keyStep}
 use Rattle.token_table.specs.TokenRows.{converted, tokensOf}
 use Rattle.token_form.specs.Fields.{placeAt}
-use Rattle.token_form.specs.Storing.{Emission, emitStep, emitted}
+use Rattle.forms.specs.Emitted.{Emission, emitStep, emitted}
 
 -- where a command's key stands among keys
 abbrev pub placeFor : Command → List ℕ → List (List ℕ) → ℕ

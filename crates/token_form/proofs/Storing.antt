@@ -1,29 +1,26 @@
 -- The records of one command, and of all commands up to a position of the code.
-use Prim.Native.Nat.{ℕ, suc, _+_, _-_, _≤_, _<_}
+use Prim.Native.Nat.{ℕ, _+_, _-_, _≤_, _<_}
 use mathlib.Core.Bool.{Bool, true, false}
 use mathlib.Core.Path.{_≡_, refl, sym, ap, _∙_}
-use mathlib.Core.List.{List, [], _∷_, _++_, map, map-append, append-assoc, append-nil}
-use native.Mathlib.Nat.{add-zero}
+use mathlib.Core.List.{List, [], _++_, map, map-append}
 use native.Mathlib.Omega.{arith}
 use borrow.Rule.Slice.PartMut.{midOf, putMid}
-use lib.Seq.{drop-drop, getD-drop}
-use lib.ListN.{length, getD, take, drop, length-append, length-map, length-take}
+use lib.ListN.{length, getD, take, length-append, length-map, length-take}
 use Rattle.slices.specs.Bytes.{over}
 use Rattle.semantics.specs.declared.Command.{Command}
-use Rattle.semantics.specs.Code.{commandOf, commandRow, known}
+use Rattle.semantics.specs.Code.{known}
 use Rattle.semantics.specs.Operations.{Token}
-use Rattle.semantics.specs.Parse.{Instruction, after, commandAt, fold, instructions, operandsAt}
-use Rattle.semantics.proofs.Machine.{fold-ends, fold-takes}
+use Rattle.semantics.specs.Parse.{after, commandAt}
 use Rattle.semantics.specs.Write.{placeIn}
 use Rattle.semantics.proofs.Over.{length-over}
-use Rattle.summary.specs.declared.Summary.{Summary}
-use Rattle.condition.specs.Walk.{Passed, next, start}
-use Rattle.condition.proofs.Position.{Position, passes-on, position-below, position-known, position-next, position-start}
+use Rattle.condition.specs.Walk.{Passed}
 use Rattle.token_table.specs.declared.TokenRow.{TokenRow}
 use Rattle.token_form.specs.Fields.{bit, numberAt, payload, placeAt}
 use Rattle.semantics.specs.Parse.{operandBytes}
 use Rattle.token_table.specs.TokenRows.{tokensOf, tokenRow}
-use Rattle.token_form.specs.Storing.{Columns, Emission, Room, Stored, columnsOf, emitStep, emitted}
+use Rattle.forms.specs.Emitted.{emitted}
+use Rattle.forms.proofs.Emitting.{Emitting, all-emitted, none-emitted, one-emitted, then-more}
+use Rattle.token_form.specs.Storing.{Columns, Room, Stored, columnsOf}
 use Rattle.slices.proofs.Front.{over-lent, over-rest}
 use Rattle.token_form.proofs.Keyed.{placeFor, tokens-places}
 use Rattle.token_form.proofs.Rows.{tokens-kinds, tokens-length, tokens-numbers}
@@ -65,35 +62,21 @@ module _ (c : Command) (k : known c ≡ true) (n : List ℕ) (marked : Bool) (ow
 
 -- ---- all commands up to a position
 
--- what is emitted later stands behind
-emitted-more : (ns : List Instruction) (s : Emission) → (more : List Token) × (fold emitStep s ns .tokens ≡ s .tokens ++ more)
-emitted-more [] s = ([], sym (append-nil (s .tokens)))
-emitted-more (n ∷ ns) s =
-    let r = emitted-more ns (emitStep s (commandOf (n .byte)) (n .operands)) in
-    (tokensOf (commandOf (n .byte)) (n .operands) (getD (s .marks) 0 false) ++ r .0, r .1 ∙ simp append-assoc)
-
 within : (xs ys more all : List Token) → xs ++ ys ++ more ≡ all → length xs + length ys ≤ length all
 within xs ys more all e = omega (arith, simp length-append at (ap length e))
 
 -- n records are written over `old`, those of the commands before `at`, with keys that stand as in ks
 pub record Progress (code : List ℕ) (marks : List Bool) (ks : List (List ℕ)) (old now : Columns) (at count n : ℕ) : Type 0 where
-  pub whole : Passed code (λ s. s .tokens ≤ length marks)
-  pub here : Summary
-  pub position : Position code (whole .last) here at count
   pub done : List Token
-  pub left : fold emitStep (record { marks = drop count marks; tokens = done }) (instructions (drop at code)) .tokens ≡ emitted code marks
+  pub emitting : Emitting code marks at count done
   pub n-is : length done ≡ n
   pub written : Stored done ks old now
 
 pub none-yet : (code : List ℕ) (marks : List Bool) (ks : List (List ℕ)) (old : Columns) → Passed code (λ s. s .tokens ≤ length marks) → Progress code marks ks old old 0 0 0
-unfolding emitted
 none-yet code marks ks old p =
     record {
-      whole = p;
-      here = start;
-      position = position-start code (p .last) (p .walk);
       done = [];
-      left = refl;
+      emitting = none-emitted code marks p;
       n-is = refl;
       written = record { kinds = refl; numbers = refl; places = refl };
     }
@@ -120,9 +103,8 @@ module _ (code : List ℕ) (marks : List Bool) (ks : List (List ℕ)) (old now :
 
   pub bounds : Room all old → Bounds
   bounds room =
-      let m = emitted-more (instructions (drop at code)) (record { marks = drop count marks; tokens = g .done }) in
-      let e : g .done ++ m .0 ≡ all = sym (m .1) ∙ g .left in
-      let t : n ≤ length all = omega (arith, simp length-append at (ap length e), g .n-is) in
+      let m = then-more code marks at count (g .done) (g .emitting) in
+      let t : n ≤ length all = omega (arith, simp length-append at (ap length (m .1)), g .n-is) in
       let w = g .written in
       record {
         tokens = t;
@@ -132,39 +114,19 @@ module _ (code : List ℕ) (marks : List Bool) (ks : List (List ℕ)) (old now :
       }
 
   pub all-done : length code ≤ at → Stored all ks old now
-  all-done h =
-      let e : g .done ≡ all = sym (ap (λ (s : Emission). s .tokens) (fold-ends emitStep code at h (record { marks = drop count marks; tokens = g .done }))) ∙ g .left in
-      rw e at (g .written)
+  all-done h = rw (all-emitted code marks at count (g .done) (g .emitting) h) at (g .written)
 
   module _ (inside : at < length code) where
-    abbrev command : Command
-    command = commandAt code at
-
-    pub command-known : known command ≡ true
-    command-known = position-known code (g .whole .last) (g .here) at count (g .position) inside
-
-    pub command-operands : at + 1 + commandRow command .width ≤ length code
-    command-operands = passes-on code (g .whole .last) (g .here) at count (g .position) inside .operands
-
-    pub mark-inside : count < length marks
-    mark-inside = omega (arith, position-below code (g .whole .last) (g .here) at count (g .position) inside, g .whole .known)
-
     -- the command's tokens
     abbrev pub tokensHere : List Token
-    tokensHere = tokensOf command (operandBytes command code (at + 1)) (getD marks count false)
+    tokensHere = tokensOf (commandAt code at) (operandBytes (commandAt code at) code (at + 1)) (getD marks count false)
 
-    left-now : fold emitStep (record { marks = drop (count + 1) marks; tokens = g .done ++ tokensHere }) (instructions (drop (after code at) code)) .tokens ≡ all
-    left-now =
-        let mark : getD (drop count marks) 0 false ≡ getD marks count false = getD-drop count marks 0 false ∙ ap (λ (i : ℕ). getD marks i false) (add-zero count) in
-        let one : at + 1 ≡ suc at = omega arith in
-        let operands : operandBytes command code (at + 1) ≡ operandsAt code at = rw one in
-        rw (← drop-drop 1 count marks, ← mark, operands)
-        (ap (λ (s : Emission). s .tokens) (sym (fold-takes emitStep code at inside (record { marks = drop count marks; tokens = g .done }))) ∙ g .left)
+    -- and how far it brings the pass
+    next-emitting : Emitting code marks (after code at) (count + 1) (g .done ++ tokensHere)
+    next-emitting = one-emitted code marks at count (g .done) (g .emitting) inside
 
     more : (ts : List Token) × (g .done ++ tokensHere ++ ts ≡ all)
-    more =
-        let m = emitted-more (instructions (drop (after code at) code)) (record { marks = drop (count + 1) marks; tokens = g .done ++ tokensHere }) in
-        (m .0, sym (m .1) ∙ left-now)
+    more = then-more code marks (after code at) (count + 1) (g .done ++ tokensHere) next-emitting
 
     pub more-tokens : n + length tokensHere ≤ length all
     more-tokens = omega (arith, within (g .done) tokensHere (more .0) all (more .1), g .n-is)
@@ -198,11 +160,8 @@ module _ (code : List ℕ) (marks : List Bool) (ks : List (List ℕ)) (old now :
         let w = g .written in
         let ts = tokensHere in
         record {
-          whole = g .whole;
-          here = next command (g .here);
-          position = position-next code (g .whole .last) (g .here) at count (g .position) inside;
           done = g .done ++ ts;
-          left = left-now;
+          emitting = next-emitting;
           n-is = length-append (g .done) ts ∙ omega (arith, g .n-is, e);
           written = record {
             kinds = column (λ t. t .kind) (old .kinds) (now .kinds) (new .kinds) kinds-length (w .kinds) (v .kinds);

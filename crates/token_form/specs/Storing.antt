@@ -1,27 +1,11 @@
--- What the tokens of code leave in the columns of the lent records.
+-- What tokens leave in the columns of the lent records.
 use Prim.Native.Nat.{ℕ, _≤_}
-use mathlib.Core.Bool.{Bool, false}
 use mathlib.Core.Path.{_≡_}
-use mathlib.Core.List.{List, [], _++_, map}
-use lib.ListN.{length, getD, drop}
+use mathlib.Core.List.{List, map}
+use lib.ListN.{length}
 use Rattle.slices.specs.Bytes.{over}
-use Rattle.semantics.specs.declared.Command.{Command}
 use Rattle.semantics.specs.Operations.{Token}
-use Rattle.semantics.specs.Parse.{fold, instructions}
-use Rattle.token_table.specs.TokenRows.{tokensOf}
 use Rattle.semantics.specs.Write.{placeIn}
-
--- the tokens of some commands, and the marks of those after them
-pub record Emission : Type 0 where
-  pub marks : List Bool
-  pub tokens : List Token
-
-abbrev pub emitStep : Emission → Command → List ℕ → Emission
-emitStep s c n = record { marks = drop 1 (s .marks); tokens = s .tokens ++ tokensOf c n (getD (s .marks) 0 false) }
-
--- the tokens of code whose commands have these marks
-unfoldable pub emitted : List ℕ → List Bool → List Token
-emitted code marks = fold emitStep (record { marks = marks; tokens = [] }) (instructions code) .tokens
 
 -- the columns of lent records
 pub record Columns : Type 0 where

@@ -16,7 +16,8 @@ ghost use Rattle.keys.specs.Keys.{Noted, keysAt};
 ghost use Rattle.token_form.specs.Fields.{Single, bit, numberAt, payload, placeAt};
 ghost use Rattle.semantics.specs.Parse.{operandBytes};
 ghost use Rattle.token_table.specs.TokenRows.{tokensOf};
-ghost use Rattle.token_form.specs.Storing.{Room, Stored, columnsOf, emitted};
+ghost use Rattle.forms.specs.Emitted.{emitted};
+ghost use Rattle.token_form.specs.Storing.{Room, Stored, columnsOf};
 
 // Kinds of tokens that carry something.
 const NUM: u8 = 1;

@@ -13,19 +13,20 @@ use Rattle.semantics.specs.declared.Written.{Written}
 use Rattle.semantics.specs.Check.{checked, condition}
 use Rattle.semantics.specs.Operations.{Token}
 use Rattle.semantics.specs.Records.{Records, recordsOf}
-use Rattle.semantics.specs.Token.{form, narrow}
+use Rattle.semantics.specs.Token.{form}
 use Rattle.semantics.specs.Trees.{Arith}
 use Rattle.semantics.specs.Write.{Writing, Wrote, joined, keysOf, placeIn, roomFor, writesUnless, writing, wrote}
-use Rattle.semantics.proofs.Passing.{Passed, answered-refused, passed, passed-short}
+use Rattle.semantics.proofs.Passing.{Passed, answered-refused, passed-short}
 use Rattle.semantics.proofs.Forms.{form-keys}
 use Rattle.semantics.proofs.Placing.{keys-few}
 use Rattle.semantics.proofs.Room.{has-room}
 use Rattle.conversions.specs.Marks.{marksOf, narrowCode}
 use Rattle.keys.specs.Keys.{KeysFound, codeKeys, keysAt}
 use Rattle.keys.proofs.Noting.{keys-count}
-use Rattle.token_form.specs.Storing.{Room, Stored, columnsOf, emitted}
+use Rattle.forms.specs.Emitted.{emitted}
+use Rattle.token_form.specs.Storing.{Room, Stored, columnsOf}
 use Rattle.token_form.proofs.Keyed.{code-keys}
-use Rattle.writer.proofs.OfTree.{emitted-form, narrow-emitted}
+use Rattle.forms.proofs.OfTree as of-tree
 
 -- with code b and the records old it answers r and leaves the records new
 abbrev pub Outcome : List ℕ → Records → Written → Records → Type 0
@@ -42,23 +43,19 @@ short b t m e = omega (arith, passed-short b t m e)
 
 -- a condition that passes is a tree
 module _ (b : List ℕ) (bytes : Bytes b) (old : Records) (t m : ℕ) (passes : checked b ≡ Checked.Passed t m) where
-  known : Passed b t m
-  known = passed b bytes t m passes
+  abbrev known : Passed b t m
+  known = of-tree.known b bytes t m passes
 
   abbrev tree : Arith
-  tree = known .tree
+  tree = of-tree.tree b bytes t m passes
 
   tokens-are : (marks rest : List Bool) → marks ≡ marksOf b ++ rest → emitted b marks ≡ form tree
-  tokens-are marks rest e =
-      ap (emitted b) e ∙ ap (λ (c : List ℕ). emitted c (marksOf c ++ rest)) (sym (known .told .coded)) ∙ emitted-form tree (known .told .encodable) rest
-
-  narrow-is : narrow (form tree) ≡ narrowCode b
-  narrow-is = ap narrow (sym (tokens-are (marksOf b ++ []) [] refl)) ∙ narrow-emitted b (marksOf b ++ [])
+  tokens-are = of-tree.tokens-are b bytes t m passes
 
   guards : writing b old
       ≡ writesUnless (firstOf (unless (narrowCode b) Refusal.IndexConstTooLarge ∷ unless (roomFor t (length (keysOf (form tree))) old) Refusal.BufferTooShort ∷ [])) (form tree)
   unfolding writing
-  guards = rw (known .is, narrow-is, known .tokens)
+  guards = rw (known .is, of-tree.narrow-is b bytes t m passes, known .tokens)
 
   pub refused-narrow : narrowCode b ≡ false → Outcome b old (Written.Refused Refusal.IndexConstTooLarge) old
   unfolding wrote

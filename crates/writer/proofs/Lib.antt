@@ -1,3 +1,2 @@
 -- Laws of what Write answers, one file a subject.
-pub mod OfTree
 pub mod Answers

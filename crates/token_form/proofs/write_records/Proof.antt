@@ -10,8 +10,10 @@ use Rattle.semantics.specs.Code.{commandRow, known}
 use Rattle.semantics.specs.Operations.{Token}
 use Rattle.semantics.specs.Parse.{commandAt}
 use Rattle.keys.specs.Keys.{keysAt}
-use Rattle.token_form.specs.Storing.{Columns, Room, columnsOf, emitted}
-use Rattle.token_form.proofs.Storing.{Bounds, Progress, all-done, bounds, command-known, command-operands, lent, mark-inside, more-tokens, none-yet, one-more, room-left, tokensHere}
+use Rattle.forms.specs.Emitted.{emitted}
+use Rattle.forms.proofs.Emitting.{command-known, command-operands, mark-inside}
+use Rattle.token_form.specs.Storing.{Columns, Room, columnsOf}
+use Rattle.token_form.proofs.Storing.{Bounds, Progress, all-done, bounds, lent, more-tokens, none-yet, one-more, room-left, tokensHere}
 use Rattle.token_form.proofs.write_records.Statement.{statement}
 use Rattle.token_form.proofs.write_records.Tie as tie
 
@@ -73,13 +75,13 @@ module _ (t : tie.In-loop Inv-loop μ-loop) where
   inside = t .loop-test .taken
 
   command-told : known (commandAt (code a) (a .loop .at)) ≡ true
-  command-told = command-known (code a) (marks a) (ks a) (old a) (now a) (a .loop .at) (a .loop .count) (a .loop .n) (a .loop .inv) inside
+  command-told = command-known (code a) (marks a) (a .loop .at) (a .loop .count) (a .loop .inv .done) (a .loop .inv .emitting) inside
 
   operands : a .loop .at + 1 + commandRow (commandAt (code a) (a .loop .at)) .width ≤ length (code a)
-  operands = command-operands (code a) (marks a) (ks a) (old a) (now a) (a .loop .at) (a .loop .count) (a .loop .n) (a .loop .inv) inside
+  operands = command-operands (code a) (marks a) (a .loop .at) (a .loop .count) (a .loop .inv .done) (a .loop .inv .emitting) inside
 
   marked : a .loop .count < length (marks a)
-  marked = mark-inside (code a) (marks a) (ks a) (old a) (now a) (a .loop .at) (a .loop .count) (a .loop .n) (a .loop .inv) inside
+  marked = mark-inside (code a) (marks a) (a .loop .at) (a .loop .count) (a .loop .inv .done) (a .loop .inv .emitting) inside
 
   abbrev here : List Token
   here = tokensHere (code a) (marks a) (ks a) (old a) (now a) (a .loop .at) (a .loop .count) (a .loop .n) (a .loop .inv) inside

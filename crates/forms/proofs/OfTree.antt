@@ -1,28 +1,31 @@
 -- The marks of a tree's commands, and that the tokens of these commands with these marks are the tree's form: `emitted-form`.
--- Refusal 6 by the commands is that by the form: `narrow-emitted`.
+-- Refusal 6 by the commands is that by the form: `narrow-emitted`. Both of code that passes: `tokens-are`, `narrow-is`.
 use Prim.Native.Nat.{ℕ}
 use mathlib.Core.Bool.{Bool, true, false}
-use mathlib.Core.Path.{_≡_, refl, ap, _∙_}
+use mathlib.Core.Path.{_≡_, refl, sym, ap, _∙_}
 use mathlib.Core.List.{List, [], _∷_, _++_, append-assoc, append-nil}
 use native.Mathlib.Omega.{arith}
 use lib.ListN.{length, getD, length-append}
 use lib.Seq.{drop-at, set-at, take-at}
-use Rattle.slices.specs.Bytes.{littleEndian}
+use Rattle.slices.specs.Bytes.{Bytes, littleEndian}
 use Rattle.slices.proofs.Bytes.{value-of-bytes}
 use Rattle.semantics.proofs.Forms.{narrow-append}
+use Rattle.semantics.specs.declared.Checked.{Checked}
 use Rattle.semantics.specs.declared.Command.{Command}
 use Rattle.semantics.specs.declared.IdxOp.{IdxOp}
+use Rattle.semantics.specs.Check.{checked}
 use Rattle.semantics.specs.Code.{code, commandRow}
 use Rattle.semantics.specs.Operations.{Token, idxRow}
 use Rattle.semantics.specs.Parse.{instructions}
 use Rattle.semantics.specs.Token.{exprForm, form, idxForm, narrow}
 use Rattle.semantics.specs.Trees.{Arith, Expr, IdxExpr}
 use Rattle.semantics.proofs.Encodable.{Encodable, ExprEncodable, IdxEncodable}
+use Rattle.semantics.proofs.Passing.{Passed, passed}
 use Rattle.semantics.proofs.Machine.{fold-code, fold-map, onExpr, onIdx}
 use Rattle.conversions.specs.Marks.{Marking, converts, markStep, marksOf, narrowCode, narrowStep, unmarked}
 use Rattle.token_table.specs.TokenRows.{converted, tokensOf}
 use Rattle.conversions.proofs.Narrow.{and-end}
-use Rattle.token_form.specs.Storing.{Emission, emitStep, emitted}
+use Rattle.forms.specs.Emitted.{Emission, emitStep, emitted}
 
 -- of an index: the marks of its commands but the last
 inner : IdxExpr → List Bool
@@ -138,3 +141,20 @@ narrow-emitted c marks =
     fold-map emitStep narrowStep (λ s. narrow (s .tokens))
     (λ s d n. narrow-append (s .tokens) (tokensOf d n (getD (s .marks) 0 false)) ∙ rw (narrow-tokens d n (getD (s .marks) 0 false)))
     (instructions c) (record { marks = marks; tokens = [] })
+
+-- ---- of code that passes: it is a tree's
+
+module _ (b : List ℕ) (bytes : Bytes b) (t m : ℕ) (passes : checked b ≡ Checked.Passed t m) where
+  pub known : Passed b t m
+  known = passed b bytes t m passes
+
+  abbrev pub tree : Arith
+  tree = known .tree
+
+  -- with the marks at the front of an array its tokens are the tree's form
+  pub tokens-are : (marks rest : List Bool) → marks ≡ marksOf b ++ rest → emitted b marks ≡ form tree
+  tokens-are marks rest e =
+      ap (emitted b) e ∙ ap (λ (c : List ℕ). emitted c (marksOf c ++ rest)) (sym (known .told .coded)) ∙ emitted-form tree (known .told .encodable) rest
+
+  pub narrow-is : narrow (form tree) ≡ narrowCode b
+  narrow-is = ap narrow (sym (tokens-are (marksOf b ++ []) [] refl)) ∙ narrow-emitted b (marksOf b ++ [])
