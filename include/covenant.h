@@ -1,5 +1,5 @@
-/* The covenant core of the signing unit: check, evaluate, write and read spending conditions. C's view of libcovenant.a, which is compiled for x86-64 with the
- * System V calling convention: 64-bit pointers and sizes, little-endian.
+/* The covenant core of the signing unit: check, evaluate, write and read spending conditions, and write their scripts. C's view of libcovenant.a, which is compiled
+ * for x86-64 with the System V calling convention: 64-bit pointers and sizes, little-endian.
  *
  * "Document 01" is the specification, "Covenant conditions in the signing unit". It has the bytes of condition code and the kinds of tokens. What each refusal
  * means, with an example: docs/OPERATORS.md.
@@ -31,6 +31,7 @@ typedef struct { uint32_t number; uint64_t place; } covenant_checked;
 typedef struct { uint32_t number; uint32_t verdict; uint64_t first, second; uint64_t checks, left; } covenant_evaluated;
 typedef struct { uint32_t number; uint64_t place; uint64_t records, key_bytes; } covenant_written;
 typedef struct { uint32_t number; uint64_t place; uint64_t code_bytes, start; } covenant_decoded;
+typedef struct { uint32_t number; uint64_t place; uint64_t script_bytes; } covenant_script_written;
 
 /* One token: 24 bytes. `number` counts for kinds 1 (Num) and 2 (Bytes8), `place` for kind 3 (Bytes32): where its 32 bytes begin in the key bytes. Else Decode ignores
  * them and Write writes 0. The same holds of the slices of numbers and places. */
@@ -42,6 +43,9 @@ typedef struct { uint8_t kind; uint64_t number; uint32_t place; } covenant_recor
 #define COVENANT_MAX_CODE 9216
 #define COVENANT_MAX_TOKENS 1024
 #define COVENANT_MAX_ORACLES 73
+
+/* A size that is always enough for the script of one condition. The longest has exactly so many bytes: 512 constants, of 9 each, and 512 operations of one. */
+#define COVENANT_MAX_SCRIPT 5120
 
 /* Whether bytes are condition code within the bounds that keeps the oracle rule. Refusals 1 to 5. Writes nothing. */
 covenant_checked covenant_check(const uint8_t *code, size_t code_count);
@@ -87,7 +91,12 @@ covenant_decoded covenant_decode(
     const uint8_t *kinds, size_t kinds_count, const uint64_t *numbers, size_t numbers_count, const uint32_t *places, size_t places_count,
     const uint8_t *keys, size_t keys_count, uint8_t *code, size_t code_count);
 
-/* The same two over token records, of which only the three fields are written. */
+/* Writes the script of a condition, the bytes of the opcodes and pushes of its token form, to the front of `script`. A constant and an oracle's time are pushes of
+ * 8 bytes, a key is one of 32; an index constant is the shortest script number, with 0 and 1 to 16 as their own opcodes. Refusals 1 to 5, 6, 7: a buffer shorter than
+ * the script. A refusal writes nothing, and nothing is written beyond `script_bytes`. */
+covenant_script_written covenant_write_script(const uint8_t *code, size_t code_count, uint8_t *script, size_t script_count);
+
+/* Write and Decode over token records, of which only the three fields are written. */
 covenant_written covenant_write_records(
     const uint8_t *code, size_t code_count, covenant_record *records, size_t records_count, uint8_t *keys, size_t keys_count);
 covenant_decoded covenant_decode_records(

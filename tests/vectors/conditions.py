@@ -60,6 +60,13 @@ def condition(depth=3, kinds="ciclubo"):
     return (rng.randrange(48, 53), left, right)
 
 
+def lookups(t):
+    """The index expressions of a condition."""
+    if t[0] in (16, 17, 32, 33):
+        return [(2,)] if t[0] == 17 else []
+    return [t[1]] if 18 <= t[0] <= 21 else [i for x in t[1:] for i in lookups(x)]
+
+
 def chain(n, op, leaf):
     """n leaves joined by a binary operation, nested to the left."""
     t = leaf()

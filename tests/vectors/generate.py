@@ -2,13 +2,14 @@
 """generate.py FILE: cases with known answers for crates/vectors. The answers are those of model.py, which is made from document 01's words, or of the published Rust
 (published.txt); each list below says what its cases are for. The same file comes out every time.
 
-A case is its length (4 bytes) and its body: the call (1 Check, 2 Evaluate, 3 Write, 4 Decode) and the number of parts, a byte each; the end of each part in the
+A case is its length (4 bytes) and its body: the call (1 Check, 2 Evaluate, 3 Write, 4 Decode, 5 Script) and the number of parts, a byte each; the end of each part in the
 body, 4 bytes each; the parts. Numbers are little-endian, 8 bytes each unless said. The parts are
   Check     code; number, place
   Evaluate  code; spent; marks; outputs; marks; issued; marks; reissued; marks; witness; ends (4 bytes each);
             current index, room for checks, number, verdict, first, second, checks, left; check bytes
   Write     code; room of kinds, numbers, places and keys, number, place, records, key bytes; kinds; numbers; places (4 bytes each); key bytes
   Decode    kinds; numbers; places (4 bytes each); keys; room for code, number, place, code bytes, start; code
+  Script    code; room, number, place, script bytes; script
 """
 import concurrent.futures
 import os
@@ -22,7 +23,8 @@ import key_orders
 import model
 import orders
 import script_numbers
-from conditions import DIVIDENDS, DIVISORS, EDGES, GREATEST, INDEX_EDGES, LEAST, TIMES, codes, condition, const, inverts, rng, rule_broken, sized
+import scripts
+from conditions import DIVIDENDS, DIVISORS, EDGES, GREATEST, INDEX_EDGES, LEAST, TIMES, codes, condition, const, inverts, lookups, rng, rule_broken, sized
 from model import BYTES8, BYTES32, MAX_CODE, MAX_ORACLES, MAX_TOKENS, NUM, code_of, form
 from orders import FIVE, KEY, NO_MARK, ONE_INPUT
 from token_lists import altered, records, small, token, unsound
@@ -126,13 +128,6 @@ def lend(elements):
     return b"".join(elements) + extra, ends
 
 
-def lookups(t):
-    """The index expressions of a condition."""
-    if t[0] in (16, 17, 32, 33):
-        return [(2,)] if t[0] == 17 else []
-    return [t[1]] if 18 <= t[0] <= 21 else [i for x in t[1:] for i in lookups(x)]
-
-
 def agreed(i, current):
     """Fails where the model's index is not that of the script."""
     try:
@@ -215,6 +210,17 @@ def write(code, rooms=None, keys=None):
     answer = model.write(code, min(rooms), keys)
     add_write(code, [*rooms, keys], *answer)
     return answer[0], len(answer[2]), len(answer[5])
+
+
+# ---- Script
+
+def script(code, room, known=None):
+    number, place, given = model.write_script(code, room)
+    told((number, given), known or (number, given))
+    if number == 0:
+        scripts.judged(given, code[-1])
+    cases.add(5, number, [code, words(room, number, place, len(given)), given])
+    return number
 
 
 # ---- Decode
@@ -463,13 +469,15 @@ def asked(call, faults):
     if call == "Decode":
         kinds, numbers, room = orders.decoding(faults)
         return decode(kinds, numbers, [0] * len(kinds), KEY, room)[0]
+    if call == "Script":
+        return script(*orders.scripting(faults))
     code = orders.condition_code(call, faults)
     check(code)
     return model.check(code)[0]
 
 
-def orderings():
-    for call in orders.ORDER:
+def orderings(calls):
+    for call in calls:
         pairs = orders.pairs(call)
         for first, second in pairs:
             told(asked(call, {first, second}), first)
@@ -565,12 +573,16 @@ def main():
             write(code_of((48, (rng.choice([18, 19]), (rng.choice([3, 5]), (2,), (1, n))), const(5))))
     decodings()
     rules_told()
-    orderings()
+    orderings([call for call in orders.ORDER if call != "Script"])
     bounds()
     keyed()
+    orderings(["Script"])
+    for case in scripts.cases():
+        script(*case)
+    assert all(cases.seen[5, n] >= 10 for n in range(8))
     with open(sys.argv[1], "wb") as f:
         f.write(b"".join(cases.out))
-    for call, name in enumerate(["Check", "Evaluate", "Write", "Decode"], 1):
+    for call, name in enumerate(orders.ORDER, 1):
         print(name, {n: c for (k, n), c in sorted(cases.seen.items()) if k == call})
     print(len(cases.out), "cases", sum(map(len, cases.out)), "bytes")
 

@@ -1,13 +1,21 @@
-"""Document 01 in Python, with what document 02's requests change of it (named where they do): the four calls on lists and bytes. Written from the documents' words alone,
+"""Document 01 in Python, with what document 02's requests change of it or add to it (named where they do): the calls on lists and bytes. Written from the documents' words alone,
 with trees, whole numbers and a reader that tries every production at every place, so that it shares no way of working with the code that it judges."""
 
 MAX_CODE, MAX_TOKENS = 9216, 1024
-MAX_ORACLES = 73  # follows from MAX_TOKENS, as include/covenant.h tells
+MAX_ORACLES, MAX_SCRIPT = 73, 5120  # follow from MAX_TOKENS, as include/covenant.h tells
 MOST_INDEX = 2**31 - 1  # R-4
 
 # kinds of tokens
 (OTHER, NUM, BYTES8, BYTES32, CURR_INP, ADD, SUB, TO_LE64, TO_NUM, MUL64, DIV64, ADD64, SUB64, NEG64, EQUAL, VERIFY, NIP, DROP, AND, OR, XOR, INVERT,
  INP_VALUE, OUT_VALUE, INP_ISSUE, DUP2, TO_ALT, FROM_ALT, GEQ64, GE64, LEQ64, LE64, CAT, SHA256, CHECKSIG, SWAP) = range(36)
+
+# R-3: "one opcode byte for each operation, from the opcode document"
+OPCODES = {
+    CURR_INP: 0xCD, ADD: 0x93, SUB: 0x94, TO_LE64: 0xE0, TO_NUM: 0xE1, MUL64: 0xD9, DIV64: 0xDA, ADD64: 0xD7, SUB64: 0xD8, NEG64: 0xDB, EQUAL: 0x87,
+    VERIFY: 0x69, NIP: 0x77, DROP: 0x75, AND: 0x84, OR: 0x85, XOR: 0x86, INVERT: 0x83, INP_VALUE: 0xC9, OUT_VALUE: 0xCF, INP_ISSUE: 0xCC, DUP2: 0x6E,
+    TO_ALT: 0x6B, FROM_ALT: 0x6C, GEQ64: 0xDF, GE64: 0xDE, LEQ64: 0xDD, LE64: 0xDC, CAT: 0x7E, SHA256: 0xA8, CHECKSIG: 0xC2, SWAP: 0x7C,
+}
+EQUALVERIFY = 0x88
 
 ONE = (NUM, 1)
 CHECKED = [ONE, (EQUAL,), (VERIFY,)]  # <1> EQUALVERIFY
@@ -326,18 +334,65 @@ def written(tokens):
     return [t[0] for t in tokens], numbers, places, b"".join(keys)
 
 
+def formed(code):
+    """Refusals 1 to 6, or the token form."""
+    tokens = form(condition(code))
+    if any(k[0] == NUM and k[1] >= 2**32 for k in tokens):
+        raise Refused(6)
+    return tokens
+
+
 def write(code, room, key_room):
     """(number, place, kinds, numbers, places, key bytes); room is the shortest of the three record slices"""
     try:
-        tokens = form(condition(code))
-        if any(k[0] == NUM and k[1] >= 2**32 for k in tokens):
-            raise Refused(6)
+        tokens = formed(code)
         answer = (0, 0, *written(tokens))
         if room < len(tokens) or key_room < len(answer[5]):
             raise Refused(7)
         return answer
     except Refused as r:
         return r.answer[:2] + ([], [], [], b"")
+
+
+def pushed(n):
+    """R-3: "the shortest script number, with 0 and 1 to 16 as their own opcodes". Lowest byte first; the top bit of the last one is the sign, so it is clear."""
+    if n <= 16:
+        return bytes([0x50 + n if n else 0])
+    digits = []
+    while n or digits[-1] >= 128:
+        digits.append(n % 256)
+        n //= 256
+    return bytes([len(digits), *digits])
+
+
+def script_of(kind, data=None):
+    """The bytes of one token; "an 8-byte or 32-byte operand is a direct push"."""
+    if kind == NUM:
+        return pushed(data)
+    if kind in (BYTES8, BYTES32):
+        return b"\x08" + data.to_bytes(8, "little") if kind == BYTES8 else b"\x20" + data
+    return bytes([OPCODES[kind]])
+
+
+def script(tokens):
+    """R-3: the script of a form; "Equal followed by Verify in a form is one byte"."""
+    pieces, at = [], 0
+    while at < len(tokens):
+        both = tokens[at : at + 2] == ops(EQUAL, VERIFY)
+        pieces.append(bytes([EQUALVERIFY]) if both else script_of(*tokens[at]))
+        at += 2 if both else 1
+    return b"".join(pieces)
+
+
+def write_script(code, room):
+    """R-3: (number, place, script)"""
+    try:
+        given = script(formed(code))
+        if room < len(given):
+            raise Refused(7)
+        return (0, 0, given)
+    except Refused as r:
+        return r.answer[:2] + (b"",)
 
 
 class Reader:

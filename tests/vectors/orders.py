@@ -1,11 +1,17 @@
 """Document 01's orders of refusals, and a case for each two refusals of an order, on which both fall: the one that comes first must be answered. That both do fall is seen from
 the case without the first one's fault, which must be answered with the second. generate.py makes the cases, and fails where a pair of an order is not in the table."""
 from conditions import const, inverts
-from model import BYTES8, MAX_CODE, MAX_TOKENS, NUM, code_of, form, parse
+from model import BYTES8, MAX_CODE, MAX_SCRIPT, MAX_TOKENS, NUM, code_of, form, parse
 
-# "1 to 5 in every call that takes a condition; then 6 in Write; then 8, 12 in Evaluate; then 7. Decode: 10, 9, 7, 11." R-2: "4 and 5 take the position of 11." After these
-# Evaluate's 20 to 41 and 43 are met, for which 41 stands.
-ORDER = {"Check": [1, 2, 3, 4, 5], "Evaluate": [1, 2, 3, 4, 5, 8, 12, 7, 41], "Write": [1, 2, 3, 4, 5, 6, 7], "Decode": [10, 9, 7, 4, 5, 11]}
+# "1 to 5 in every call that takes a condition; then 6 in Write; then 8, 12 in Evaluate; then 7. Decode: 10, 9, 7, 11." R-2: "4 and 5 take the position of 11." R-3: "6
+# as in Write, then 7". After these Evaluate's 20 to 41 and 43 are met, for which 41 stands.
+ORDER = {
+    "Check": [1, 2, 3, 4, 5],
+    "Evaluate": [1, 2, 3, 4, 5, 8, 12, 7, 41],
+    "Write": [1, 2, 3, 4, 5, 6, 7],
+    "Decode": [10, 9, 7, 4, 5, 11],
+    "Script": [1, 2, 3, 4, 5, 6, 7],
+}
 
 # Code that is not well formed has no tokens, terminals or index constants, nothing that room is needed for, and nothing to be evaluated; tokens that no tail can be read of break no rule.
 NEVER_BOTH = {(2, n) for n in (3, 4, 5, 6, 7, 41)} | {(4, 11), (5, 11)}
@@ -16,6 +22,7 @@ DECIDED = {
     "Evaluate": "1/2 1/3 1/4 1/5 1/8 1/12 1/7 1/41 2/8 2/12 3/4 3/5 3/8 3/12 3/7 3/41 4/5 4/8 4/12 4/7 4/41 5/8 5/12 5/7 5/41 8/12 8/7 8/41 12/7 12/41 7/41",
     "Write": "1/2 1/3 1/4 1/5 1/6 1/7 3/4 3/5 3/6 3/7 4/5 4/6 4/7 5/6 5/7 6/7",
     "Decode": "10/9 10/7 10/4 10/5 10/11 9/7 9/4 9/5 9/11 7/4 7/5 7/11 4/5",
+    "Script": "1/2 1/3 1/4 1/5 1/6 1/7 3/4 3/5 3/6 3/7 4/5 4/6 4/7 5/6 5/7 6/7",
 }
 
 FIVE, KEY = const(5), bytes(range(4, 36))
@@ -56,6 +63,11 @@ def evaluation(faults):
 def writing(faults):
     """Code, and the rooms; 7: none."""
     return condition_code("Write", faults), [0] * 3 if 7 in faults else [MAX_TOKENS] * 3, 64
+
+
+def scripting(faults):
+    """Code and room; 7: none."""
+    return condition_code("Script", faults), 0 if 7 in faults else MAX_SCRIPT
 
 
 def decoding(faults):
