@@ -323,6 +323,78 @@ static void most_terminals(void) {
     expect(w.number == 0 && w.key_bytes == 32 && !memcmp(keys, code + 1, 32) && kept(keys, 32, sizeof keys), "write: the most oracle terminals with one key");
 }
 
+/* A script that fits into 64 bytes: in exact room and in more it is written and nothing after it; in a byte less, or none, it is refused. */
+static void script_is(const uint8_t *code, size_t count, const uint8_t *known, size_t bytes, const char *what) {
+    uint8_t script[64 + 8];
+    for (size_t room = bytes; room <= bytes + 8; room += 8) {
+        memset(script, FILL, sizeof script);
+        covenant_script_written a = covenant_write_script(code, count, script, room);
+        expect(a.number == 0 && a.place == 0 && a.script_bytes == bytes && !memcmp(script, known, bytes) && kept(script, bytes, sizeof script), what);
+    }
+    memset(script, FILL, sizeof script);
+    covenant_script_written a = covenant_write_script(code, count, script, bytes - 1);
+    expect(a.number == 7 && a.place == 0 && a.script_bytes == 0 && kept(script, 0, sizeof script), "script: a byte too few");
+    a = covenant_write_script(code, count, 0, 0);
+    expect(a.number == 7 && a.place == 0 && a.script_bytes == 0, "script: no buffer");
+}
+
+/* Refused, whatever the room, and nothing is written. */
+static void script_refused(const uint8_t *code, size_t count, uint32_t number, uint64_t place, const char *what) {
+    uint8_t script[COVENANT_MAX_SCRIPT];
+    memset(script, FILL, sizeof script);
+    covenant_script_written a = covenant_write_script(code, count, script, sizeof script), b = covenant_write_script(code, count, 0, 0);
+    expect(a.number == number && a.place == place && a.script_bytes == 0 && kept(script, 0, sizeof script), what);
+    expect(b.number == number && b.place == place && b.script_bytes == 0, what);
+}
+
+static void script(void) {
+    static const uint8_t five_script[19] = {8, 5, 0, 0, 0, 0, 0, 0, 0, 8, 5, 0, 0, 0, 0, 0, 0, 0, 0x87};
+    script_is(five, sizeof five, five_script, sizeof five_script, "script: 5 Eq 5");
+    static const uint8_t less_one_script[16] = {0xcd, 0x51, 0x94, 0xc9, 0x51, 0x88, 8, 7, 0, 0, 0, 0, 0, 0, 0, 0x87};
+    script_is(less_one, sizeof less_one, less_one_script, sizeof less_one_script, "script: current index less one");
+
+    /* an oracle terminal: its time in the 8 bytes after 3, its key in the 32 after 16; then 9 */
+    uint8_t code[51], known[60] = {0x6e, 0x6b, 8, 5, 0, 0, 0, 0, 0, 0, 0, 0xdf, 0x69, 0x7e, 0xa8, 0x20, [48] = 0xc2, 0x6c, 8, 9, [59] = 0x87};
+    oracle_code(code);
+    for (int i = 0; i < 32; i++) known[16 + i] = (uint8_t)(i + 4);
+    script_is(code, sizeof code, known, sizeof known, "script: an oracle terminal");
+
+    /* the current index by 128, by 2^32 - 1, by 2^32 */
+    uint8_t by[22] = {2, 1, 128, 0, 0, 0, 0, 0, 0, 0, 6, 18, 16, 5, [21] = 48};
+    static const uint8_t by_128[24] = {0xcd, 0xe0, 2, 128, 0, 0xe0, 0xda, 0x51, 0x88, 0x77, 0xe1, 0xc9, 0x51, 0x88, 8, 5, [23] = 0x87};
+    script_is(by, sizeof by, by_128, sizeof by_128, "script: an index constant of 128");
+    static const uint8_t by_most[27] = {0xcd, 0xe0, 5, 255, 255, 255, 255, 0, 0xe0, 0xda, 0x51, 0x88, 0x77, 0xe1, 0xc9, 0x51, 0x88, 8, 5, [26] = 0x87};
+    memset(by + 2, 255, 4);
+    script_is(by, sizeof by, by_most, sizeof by_most, "script: an index constant of 2^32 - 1");
+    memset(by + 2, 0, 4), by[6] = 1;
+    script_refused(by, sizeof by, 6, 0, "script: an index constant of 2^32");
+
+    script_refused(0, 0, 2, 0, "script: no code");
+    script_refused(five, 9, 2, 9, "script: a constant alone");
+    static const uint8_t long_code[COVENANT_MAX_CODE + 1];
+    script_refused(long_code, sizeof long_code, 1, 0, "script: code that is too long");
+    code[0] = 33;
+    script_refused(code, sizeof code, 4, 0, "script: a misplaced oracle terminal");
+}
+
+/* The size that the header names is enough for the longest script, and none of it is left: 512 constants joined by Xor, an Invert, Eq. */
+static void longest_script(void) {
+    enum { MOST = COVENANT_MAX_SCRIPT, CONSTANTS = COVENANT_MAX_TOKENS / 2 };
+    static uint8_t code[10 * CONSTANTS], known[MOST], script[MOST + 8];
+    for (size_t i = 0; i < CONSTANTS; i++) {
+        uint8_t *c = code + 10 * i, *k = known + 10 * i;
+        memset(c, (int)i, 9), memset(k, (int)i, 9);
+        c[0] = 16, k[0] = 8;
+        c[9] = i == 0 ? 30 : i < CONSTANTS - 1 ? 29 : 48;
+        k[9] = i == 0 ? 0x83 : i < CONSTANTS - 1 ? 0x86 : 0x87;
+    }
+    memset(script, FILL, sizeof script);
+    covenant_script_written a = covenant_write_script(code, sizeof code, script, MOST - 1);
+    expect(a.number == 7 && a.script_bytes == 0 && kept(script, 0, sizeof script), "script: a byte too few for the longest");
+    a = covenant_write_script(code, sizeof code, script, MOST);
+    expect(a.number == 0 && a.script_bytes == MOST && !memcmp(script, known, MOST) && kept(script, MOST, sizeof script), "script: the longest");
+}
+
 int main(void) {
     check();
     evaluate();
@@ -331,6 +403,8 @@ int main(void) {
     misplaced_oracles();
     key_orders();
     most_terminals();
+    script();
+    longest_script();
     if (!failures) puts("boundary: the calls from C agree");
     return failures != 0;
 }

@@ -1,10 +1,10 @@
 //! Calls the archive from Rust, on good and bad input.
 mod covenant;
-use covenant::{List, Record, MAX_CODE, MAX_ORACLES, MAX_TOKENS};
+use covenant::{List, Record, ScriptWritten, MAX_CODE, MAX_ORACLES, MAX_SCRIPT, MAX_TOKENS};
 
 fn main() {
     let header = include_str!("../../include/covenant.h");
-    for (name, n) in [("CODE", MAX_CODE), ("TOKENS", MAX_TOKENS), ("ORACLES", MAX_ORACLES)] {
+    for (name, n) in [("CODE", MAX_CODE), ("TOKENS", MAX_TOKENS), ("ORACLES", MAX_ORACLES), ("SCRIPT", MAX_SCRIPT)] {
         assert!(header.contains(&format!("#define COVENANT_MAX_{name} {n}\n")), "the header's {name}");
     }
     let five = [16, 5, 0, 0, 0, 0, 0, 0, 0, 16, 5, 0, 0, 0, 0, 0, 0, 0, 48];
@@ -65,5 +65,27 @@ fn main() {
     let d = covenant::decode_records(&records[..3], &[], &mut code);
     assert_eq!((d.number, d.code_bytes, d.start), (0, 19, 0));
     assert!(code[..19] == five && code[19..].iter().all(|b| *b == 0xa5));
+
+    let mut script = [0xa5; MAX_SCRIPT + 1];
+    let refused = |number, place| ScriptWritten { number, place, script_bytes: 0 };
+    assert_eq!(covenant::write_script(&[], &mut []), refused(2, 0));
+    assert_eq!(covenant::write_script(&five[..9], &mut script), refused(2, 9));
+    assert_eq!(covenant::write_script(&five, &mut script[..18]), refused(7, 0));
+    let at_index = |n: u64| [&[1][..], &n.to_le_bytes(), &[19], &five[9..]].concat();
+    for room in [0, MAX_SCRIPT] {
+        assert_eq!(covenant::write_script(&at_index(1 << 32), &mut script[..room]), refused(6, 0));
+    }
+    assert!(script.iter().all(|b| *b == 0xa5));
+    // the pushes of 5, of the terminal's time and of its key stand in the script as they are
+    let push = [8, 5, 0, 0, 0, 0, 0, 0, 0];
+    let oracle = [&[0x6e, 0x6b][..], &push, &[0xdf, 0x69, 0x7e, 0xa8, 0x20], &[7; 31], &[9, 0xc2, 0x6c]].concat();
+    for (code, left) in [(five.to_vec(), push.to_vec()), ([&terminal(32, 9)[..], &five[9..]].concat(), oracle), (at_index(1 << 31), vec![5, 0, 0, 0, 128, 0, 0xcf, 0x51, 0x88])] {
+        let known = [&left[..], &push, &[0x87]].concat();
+        for room in [known.len(), MAX_SCRIPT] {
+            script.fill(0xa5);
+            assert_eq!(covenant::write_script(&code, &mut script[..room]), ScriptWritten { number: 0, place: 0, script_bytes: known.len() as u64 });
+            assert!(script[..known.len()] == known && script[known.len()..].iter().all(|b| *b == 0xa5));
+        }
+    }
     println!("boundary: the calls from Rust agree");
 }

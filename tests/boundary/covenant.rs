@@ -5,6 +5,7 @@
 pub const MAX_CODE: usize = 9216;
 pub const MAX_TOKENS: usize = 1024;
 pub const MAX_ORACLES: usize = 73;
+pub const MAX_SCRIPT: usize = 5120;
 
 #[repr(C)]
 #[derive(Clone, Copy, Debug, PartialEq)]
@@ -42,6 +43,14 @@ pub struct Decoded {
     pub start: u64,
 }
 
+#[repr(C)]
+#[derive(Clone, Copy, Debug, PartialEq)]
+pub struct ScriptWritten {
+    pub number: u32,
+    pub place: u64,
+    pub script_bytes: u64,
+}
+
 /// One token: 24 bytes.
 #[repr(C)]
 #[derive(Clone, Copy, Debug, PartialEq)]
@@ -67,6 +76,7 @@ mod archive {
         pub fn covenant_decode(
             kinds: *const u8, n: usize, numbers: *const u64, n: usize, places: *const u32, n: usize, keys: *const u8, n: usize, code: *mut u8, n: usize,
         ) -> Decoded;
+        pub fn covenant_write_script(code: *const u8, n: usize, script: *mut u8, n: usize) -> ScriptWritten;
         pub fn covenant_write_records(code: *const u8, n: usize, records: *mut Record, n: usize, keys: *mut u8, n: usize) -> Written;
         pub fn covenant_decode_records(records: *const Record, n: usize, keys: *const u8, n: usize, code: *mut u8, n: usize) -> Decoded;
     }
@@ -111,6 +121,10 @@ pub fn decode(kinds: &[u8], numbers: &[u64], places: &[u32], keys: &[u8], code: 
             code.len(),
         )
     }
+}
+
+pub fn write_script(code: &[u8], script: &mut [u8]) -> ScriptWritten {
+    unsafe { archive::covenant_write_script(code.as_ptr(), code.len(), script.as_mut_ptr(), script.len()) }
 }
 
 pub fn write_records(code: &[u8], records: &mut [Record], keys: &mut [u8]) -> Written {

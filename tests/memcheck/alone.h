@@ -63,11 +63,16 @@ static inline covenant_decoded alone_decode_records(const covenant_record *recor
     ALONE(covenant_decoded, covenant_decode_records(READ(records, records_n), READ(keys, keys_n), WRITTEN(code, n)));
 }
 
+static inline covenant_script_written alone_write_script(const uint8_t *code, size_t n, uint8_t *script, size_t script_n) {
+    ALONE(covenant_script_written, covenant_write_script(READ(code, n), WRITTEN(script, script_n)));
+}
+
 #define covenant_check alone_check
 #define covenant_evaluate alone_evaluate
 #define covenant_write alone_write
 #define covenant_decode alone_decode
 #define covenant_write_records alone_write_records
 #define covenant_decode_records alone_decode_records
+#define covenant_write_script alone_write_script
 
 #endif

@@ -6,7 +6,7 @@
 #include <stdio.h>
 #include <string.h>
 
-enum { CHECK = 1, EVALUATE, WRITE, DECODE, PARTS = 16, MOST = 1 << 16 };
+enum { CHECK = 1, EVALUATE, WRITE, DECODE, SCRIPT, PARTS = 16, MOST = 1 << 16 };
 
 static struct { uint64_t bytes[MOST / 8]; size_t count; } part[PARTS];
 

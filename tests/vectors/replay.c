@@ -3,7 +3,7 @@
 #include "cases.h"
 #include "covenant.h"
 
-enum { FILL = 0xa5, ROOM = 1 << 14, CALLS = 6 };
+enum { FILL = 0xa5, ROOM = 1 << 14, CALLS = 7 };
 
 /* What is written to, as large as any case asks for. */
 static uint8_t out[ROOM], kinds[ROOM], keys[ROOM];
@@ -88,8 +88,15 @@ static int decode_records(void) {
     return decoded(covenant_decode_records(records, n8(0), u8(3), n8(3), out, u64(4)[0]));
 }
 
-static const char *const name[CALLS] = {"Check", "Evaluate", "Write", "Decode", "Write, records", "Decode, records"};
-static int (*const agrees[CALLS])(void) = {check, evaluate, write, decode, write_records, decode_records};
+static int script(void) {
+    const uint64_t *known = u64(1);
+    memset(out, FILL, sizeof out);
+    covenant_script_written a = covenant_write_script(u8(0), n8(0), out, known[0]);
+    return a.number == known[1] && a.place == known[2] && a.script_bytes == known[3] && holds(out, sizeof out, u8(2), n8(2));
+}
+
+static const char *const name[CALLS] = {"Check", "Evaluate", "Write", "Decode", "Script", "Write, records", "Decode, records"};
+static int (*const agrees[CALLS])(void) = {check, evaluate, write, decode, script, write_records, decode_records};
 static unsigned count[CALLS], differ[CALLS];
 
 static void replay(int call) {
@@ -101,10 +108,10 @@ int main(int argc, char **argv) {
     FILE *f = argc > 1 ? fopen(argv[1], "rb") : 0;
     int call = -1, failed = 0;
     while (f && (call = next_case(f)) > 0) {
-        if (call > DECODE) return puts("no call"), 1;
+        if (call > SCRIPT) return puts("no call"), 1;
         replay(call - 1);
-        if (call == WRITE) replay(4);
-        if (call == DECODE && has_records()) replay(5);
+        if (call == WRITE) replay(5);
+        if (call == DECODE && has_records()) replay(6);
     }
     for (int c = 0; c < CALLS; c++) {
         printf("%-16s%5u cases, %u differ\n", name[c], count[c], differ[c]);
