@@ -15,6 +15,7 @@ fn published_answer(f: &[&str]) -> String {
         "C" => common::tree(&published::unhex(f[1])).err().unwrap_or(0).to_string(),
         "E" => published::evaluate(f),
         "W" => published::write(f),
+        "S" => published::script(f),
         _ => published::decode(f),
     }
 }
@@ -24,6 +25,7 @@ fn our_answer(f: &[&str]) -> String {
         "C" => ours::check(f),
         "E" => ours::evaluate(f),
         "W" => ours::write(f),
+        "S" => ours::script(f),
         _ => ours::decode(f),
     }
 }
@@ -38,10 +40,10 @@ fn alike<'a>(call: &str, answer: &'a str) -> &'a str {
     if call == "D" && (answer == "4" || answer == "5") { "11" } else { answer }
 }
 
-/// The number that an answer begins with; that of a form or a reading is 0.
+/// The number that an answer begins with; that of a form, a script or a reading is 0.
 fn number(call: &str, answer: &str) -> String {
     match call {
-        "W" if answer.len() > 2 => "0".into(),
+        "W" | "S" if answer.len() > 2 => "0".into(),
         "D" if answer.contains(' ') => "0".into(),
         _ => answer.split(' ').next().unwrap().into(),
     }

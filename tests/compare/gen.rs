@@ -235,10 +235,12 @@ fn tokens(r: &mut Random) -> Vec<Record> {
     all.split_off(all.len().saturating_sub(1024))
 }
 
+/// Every ninth case is one of scripts, with random numbers of its own, so that the others are what they are without it.
 pub fn cases(seed: u64, count: usize, mut emit: impl FnMut(String)) {
-    let mut r = Random(seed);
+    let (mut r, mut own) = (Random(seed), Random(!seed));
     for n in 0..count {
-        emit(match n % 8 {
+        emit(match n % 9 {
+            8 => format!("S {}", hex(&condition(&mut own, Indexes::Formed))),
             0 => format!("C {}", hex(&condition(&mut r, Indexes::Any))),
             // Write's bytes are read back by `lex`
             1 | 2 => format!("W {}", hex(&condition(&mut r, Indexes::Formed))),

@@ -1,6 +1,6 @@
 // Our answers to the same lines, from the archive. Buffers have the room that the calls ask for, and an element more, which must be kept. Write and Decode are asked over
 // number slices and over token records; where the two differ, both are the answer.
-use crate::covenant::{self, Decoded, List, Record as TokenRecord, Written, MAX_CODE, MAX_ORACLES, MAX_TOKENS};
+use crate::covenant::{self, Decoded, List, Record as TokenRecord, Written, MAX_CODE, MAX_ORACLES, MAX_SCRIPT, MAX_TOKENS};
 use crate::published::{hex, list, records, spell, unhex};
 use crate::common::Record;
 
@@ -85,6 +85,14 @@ pub fn write(f: &[&str]) -> String {
     keys.fill(0xa5);
     let b = covenant::write_records(&code, &mut all, &mut keys);
     one_answer(slices, form(b, &all, UNSET, &keys))
+}
+
+pub fn script(f: &[&str]) -> String {
+    let mut script = vec![0xa5; MAX_SCRIPT + 1];
+    let a = covenant::write_script(&unhex(f[1]), &mut script);
+    let n = a.script_bytes as usize;
+    assert!(script[n..].iter().all(|b| *b == 0xa5), "bytes beyond the script");
+    if a.number != 0 { a.number.to_string() } else { hex(&script[..n]) }
 }
 
 /// Decode's answer, from the code that it wrote.

@@ -2,11 +2,13 @@
 //   C code                                       -> number (0, 4, 5)
 //   E code index spent outs iss reiss witness    -> number first second verdict checks left checkbytes   (lists: 7,x,9; x: not explicit)
 //   W code                                       -> tokens, by push_to_builder and lex
+//   S code                                       -> script, by push_to_builder
 //   D tokens                                     -> start code, or 11
 // Bytes are hex; - stands for an empty list, . for an empty witness element; a token is kind or kind:hex.
 use crate::common::*;
 use elements::confidential::Value as Amount;
-use elements::{AssetIssuance, Transaction, TxIn, TxOut};
+use elements::script::Builder;
+use elements::{AssetIssuance, Script, Transaction, TxIn, TxOut};
 use elements_miniscript::extensions::{EvalError, ParseableExt, TxEnv};
 use elements_miniscript::interpreter::{Element, Stack};
 use elements_miniscript::miniscript::lex::{lex, TokenIter};
@@ -89,9 +91,16 @@ pub fn evaluate(f: &[&str]) -> String {
     format!("{n} {a} {b} {verdict} {} {} {}", checks.len() / 112, stack.len(), hex(&checks))
 }
 
+fn built(code: &[u8]) -> Result<Script, u64> {
+    Ok(tree(code)?.push_to_builder(Builder::new()).into_script())
+}
+
+pub fn script(f: &[&str]) -> String {
+    built(&unhex(f[1])).map_or_else(|n| n.to_string(), |script| hex(&script[0..]))
+}
+
 pub fn form(code: &[u8]) -> Result<Vec<Record>, u64> {
-    let script = tree(code)?.push_to_builder(elements::script::Builder::new()).into_script();
-    Ok(lex(&script).expect("a form that the builder made").iter().map(record).collect())
+    Ok(lex(&built(code)?).expect("a form that the builder made").iter().map(record).collect())
 }
 
 pub fn write(f: &[&str]) -> String {

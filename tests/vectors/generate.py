@@ -498,7 +498,7 @@ def bounds():
     told(decode(*records([(NUM, 2**32)] + form(model.parse(most))[1:]))[:2], (9, 0))
 
 
-# ---- what the published Rust answered: published.txt, made by `target/compare/compare sample 7 400 | awk 'length < 1500'` (tests/compare)
+# ---- what the published Rust answered: published.txt, made by `target/compare/compare sample 7 450 | grep -v ^S | awk 'length < 1500'` (tests/compare)
 
 def unhex(s):
     return b"" if s in "-." else bytes.fromhex(s)
