@@ -1,4 +1,4 @@
-/* calls FILE: for each line of `shapes.py` the stack of each call, in bytes, and the time of the first four, in nanoseconds (the least of 40 rounds).
+/* calls FILE: for each line of `shapes.py` the stack of each call, in bytes, and the time of the first five, in nanoseconds (the least of 40 rounds).
  * calls refused FILE: for each line of `shapes.py refused` the stack of Decode and of Decode over records, and the time of Decode.
  * calls FILE LINE CALL, calls refused FILE LINE: makes that one call (that Decode) ten times, for callgrind.
  * calls slots SLOTS ENDS: evaluates 5 Eq 5 eleven times, with so many slots in each of the four lists and so many empty witness elements, for callgrind. */
@@ -10,10 +10,10 @@
 #include <string.h>
 #include <time.h>
 
-enum { CALLS = 6, TIMED = 4, KINDS = 36, SLOTS = 1024, CODE = COVENANT_MAX_CODE, TOKENS = COVENANT_MAX_TOKENS, ORACLES = COVENANT_MAX_ORACLES };
+enum { CALLS = 7, TIMED = 5, KINDS = 36, SLOTS = 1024, CODE = COVENANT_MAX_CODE, TOKENS = COVENANT_MAX_TOKENS, ORACLES = COVENANT_MAX_ORACLES };
 
 /* What is lent, as large as any call asks for. */
-static uint8_t code[CODE], witness[80 * ORACLES], checks[112 * ORACLES], kinds[TOKENS], keys[32 * ORACLES], back[CODE];
+static uint8_t code[CODE], witness[80 * ORACLES], checks[112 * ORACLES], kinds[TOKENS], keys[32 * ORACLES], back[CODE], script[COVENANT_MAX_SCRIPT];
 static uint64_t numbers[TOKENS], spent[4] = {1, 1, 1, 1};
 static uint32_t places[TOKENS], ends[3 * ORACLES];
 static const uint8_t marks[4] = {1, 1, 1, 1};
@@ -33,11 +33,13 @@ static void decode(void *p) {
     *(covenant_decoded *)p = covenant_decode(kinds, tokens, numbers, tokens, places, tokens, keys, key_bytes, back, sizeof back);
 }
 
+static void write_script(void *p) { *(covenant_script_written *)p = covenant_write_script(code, code_count, script, sizeof script); }
+
 static void write_records(void *p) { *(covenant_written *)p = covenant_write_records(code, code_count, records, TOKENS, keys, sizeof keys); }
 
 static void decode_records(void *p) { *(covenant_decoded *)p = covenant_decode_records(records, tokens, keys, key_bytes, back, sizeof back); }
 
-static void (*const call[CALLS])(void *) = {check, evaluate, write, decode, write_records, decode_records};
+static void (*const call[CALLS])(void *) = {check, evaluate, write, decode, write_script, write_records, decode_records};
 
 static size_t bytes_of(const char *hex, uint8_t *out) {
     size_t n = strlen(hex) / 2;
@@ -57,7 +59,8 @@ static size_t terminals(void) {
     return n;
 }
 
-/* Lends the condition of a line, with the witness of its oracle terminals: signature, the terminals' time 9, price 1. Its tokens are written for Decode. */
+/* Lends the condition of a line, with the witness of its oracle terminals: signature, the terminals' time 9, price 1. Its tokens are written for Decode; every call but
+ * Check is made once. */
 static void lend(const char *shape, const char *hex) {
     code_count = bytes_of(hex, code);
     ends_count = 3 * terminals();
@@ -76,8 +79,10 @@ static void lend(const char *shape, const char *hex) {
     evaluate(&e);
     covenant_decoded d;
     decode(&d);
-    if (w.number || e.number || d.number || d.code_bytes != code_count || memcmp(back, code, code_count)) {
-        printf("%s: Write %u, Evaluate %u, Decode %u\n", shape, w.number, e.number, d.number);
+    covenant_script_written s;
+    write_script(&s);
+    if (w.number || e.number || d.number || d.code_bytes != code_count || memcmp(back, code, code_count) || s.number) {
+        printf("%s: Write %u, Evaluate %u, Decode %u, Script %u\n", shape, w.number, e.number, d.number, s.number);
         exit(1);
     }
 }
@@ -113,7 +118,7 @@ static double least(void (*f)(void *), void *p) {
     return best;
 }
 
-typedef union { covenant_checked c; covenant_evaluated e; covenant_written w; covenant_decoded d; } any_answer;
+typedef union { covenant_checked c; covenant_evaluated e; covenant_written w; covenant_decoded d; covenant_script_written s; } any_answer;
 
 static void measure(const char *shape, unsigned n) {
     any_answer answer;

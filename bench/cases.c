@@ -3,7 +3,7 @@
 #include "covenant.h"
 #include "stack.h"
 
-enum { CALLS = 6 };
+enum { CALLS = 7 };
 
 /* What is written to. */
 static uint8_t out[MOST], kinds[MOST], keys[MOST];
@@ -27,11 +27,13 @@ static void decode(void *p) {
     *(covenant_decoded *)p = covenant_decode(u8(0), n8(0), u64(1), n64(1), u32(2), n32(2), u8(3), n8(3), out, u64(4)[0]);
 }
 
+static void script(void *p) { *(covenant_script_written *)p = covenant_write_script(u8(0), n8(0), out, u64(1)[0]); }
+
 static void write_records(void *p) { *(covenant_written *)p = covenant_write_records(u8(0), n8(0), records, u64(1)[0], keys, u64(1)[3]); }
 
 static void decode_records(void *p) { *(covenant_decoded *)p = covenant_decode_records(records, n8(0), u8(3), n8(3), out, u64(4)[0]); }
 
-static void (*const call[CALLS])(void *) = {check, evaluate, write, decode, write_records, decode_records};
+static void (*const call[CALLS])(void *) = {check, evaluate, write, decode, script, write_records, decode_records};
 
 /* The records of a case of Decode; what is not lent is 0. */
 static void lend_records(void) {
@@ -40,14 +42,14 @@ static void lend_records(void) {
 
 int main(int argc, char **argv) {
     size_t most[CALLS] = {0};
-    union { covenant_checked c; covenant_evaluated e; covenant_written w; covenant_decoded d; } answer;
+    union { covenant_checked c; covenant_evaluated e; covenant_written w; covenant_decoded d; covenant_script_written s; } answer;
     FILE *f = argc > 1 ? fopen(argv[1], "rb") : 0;
     int of = -1;
     while (f && (of = next_case(f)) > 0) {
         if (of == DECODE) lend_records();
         for (int c = 0; c < CALLS; c++) {
             /* the calls over records have the cases of Write and of Decode */
-            if ((c < DECODE ? c + 1 : c - 1) != of) continue;
+            if ((c < SCRIPT ? c + 1 : c - 2) != of) continue;
             size_t used = stack_used(call[c], &answer);
             if (used > most[c]) most[c] = used;
         }

@@ -19,14 +19,14 @@ SLOTS = 256  # of a list of amounts, for the table of memory
 LONGER = 4096  # tokens of a condition that the tables of memory look ahead to, with as many code bytes and oracle terminals in proportion
 LIMITS = 96 << 10, 300 << 10  # of a call, all in, at today's bound of tokens and at the longer one
 # bytes of the calls' own arrays for each token: operands of 8 and 8; marks of 2 and 1; a row of 1; the fields of a record, 1, 8 and 4
-ARRAYS = {"Check": 0, "Evaluate": 16, "Write": 3, "Decode": 1, "Write, records": 16, "Decode, records": 14}
-CALLS = ["Check", "Evaluate", "Write", "Decode"]
+ARRAYS = {"Check": 0, "Evaluate": 16, "Write": 3, "Decode": 1, "Script": 3, "Write, records": 16, "Decode, records": 14}
+CALLS = ["Check", "Evaluate", "Write", "Decode", "Script"]
 SIZES = [12, 100, 256, 512, 1024]
 GOALS = {12: 1.5, 100: 1.0, 1024: 1.0}  # ratios to the Rust, by the size asked for
 WIDTH = 120  # columns of the documents
 STACKS = CALLS + ["Write, records", "Decode, records"]
-OURS = ["covenant_check", "covenant_evaluate", "covenant_write", "covenant_decode"]
-THEIRS = ["bench_new", "bench_eval", "bench_write", "bench_decode"]
+OURS = ["covenant_check", "covenant_evaluate", "covenant_write", "covenant_decode", "covenant_write_script"]
+THEIRS = ["bench_new", "bench_eval", "bench_write", "bench_decode", "bench_write"]
 
 
 def run(*words, **more):
@@ -63,11 +63,11 @@ def instructions(function, *program):
 
 
 def own():
-    """{(shape, size): (tokens, stack of each call, ns of the first four)}"""
+    """{(shape, size): (tokens, stack of each call, ns of the first five)}"""
     rows = {}
     for n, l in enumerate(run(os.path.join(OUT, "calls"), SHAPES).splitlines()):
         shape, tokens, *figures = l.split()
-        rows[shape.replace("_", " "), SIZES[n % 5]] = (int(tokens), [int(f) for f in figures[:6]], [int(f) for f in figures[6:]])
+        rows[shape.replace("_", " "), SIZES[n % 5]] = (int(tokens), [int(f) for f in figures[: len(STACKS)]], [int(f) for f in figures[len(STACKS) :]])
     return rows
 
 
@@ -99,8 +99,8 @@ def both(rows):
     ours, theirs = os.path.join(OUT, "calls"), os.path.join(ROOT, "target", "compare", "bench")
     times = [[int(f) for f in l.split()[2:]] for l in run(theirs, SHAPES).splitlines()]
     with concurrent.futures.ThreadPoolExecutor(os.cpu_count()) as pool:
-        a = [[pool.submit(instructions, OURS[c], ours, SHAPES, str(n), str(c)) for c in range(4)] for n in range(len(times))]
-        b = [[pool.submit(instructions, THEIRS[c], theirs, SHAPES, str(n), str(c)) for c in range(4)] for n in range(len(times))]
+        a = [[pool.submit(instructions, OURS[c], ours, SHAPES, str(n), str(c)) for c in range(len(CALLS))] for n in range(len(times))]
+        b = [[pool.submit(instructions, THEIRS[c], theirs, SHAPES, str(n), str(c)) for c in range(len(CALLS))] for n in range(len(times))]
     result = lambda jobs: [j.result() for j in jobs]
     keys = lambda m: [c[1:33] for c in m if c[0] in (32, 33)]
     return {k: (rows[k][0], rows[k][2], times[n], result(a[n]), result(b[n]), len(m), keys(m)) for n, (k, m) in enumerate(zip(rows, commands()))}
@@ -121,7 +121,7 @@ def paragraph(text):
     return textwrap.wrap(text, WIDTH) + [""]
 
 
-def lent(code, tokens, oracles):
+def lent(code, tokens, oracles, script):
     """For each call what the caller provides for the largest condition."""
     keys = ("%d keys" % oracles, oracles * 32)
     slices, structs = ("%d records in three slices" % tokens, tokens * 13), ("%d records" % tokens, tokens * 24)
@@ -131,6 +131,7 @@ def lent(code, tokens, oracles):
                      ("four lists of %d slots" % SLOTS, 4 * SLOTS * 9)],
         "Write": [("code", code), slices, keys],
         "Decode": [slices, keys, ("code", code)],
+        "Script": [("code", code), ("script", script)],
         "Write, records": [("code", code), structs, keys],
         "Decode, records": [structs, keys, ("code", code)],
     }
@@ -143,14 +144,15 @@ def memory(rows, refused, cases, readers):
         if m:
             sections[m.group(1)] = sections.get(m.group(1), 0) + int(m.group(2))
     text, rodata = sections.get("text", 0), sections.get("rodata", 0)
-    worst = [max([cases[c]] + [r[1][c] for r in rows.values()]) for c in range(6)]
-    for c, k in ((3, 0), (5, 1)):
+    worst = [max([cases[c]] + [r[1][c] for r in rows.values()]) for c in range(len(STACKS))]
+    for k, name in enumerate(["Decode", "Decode, records"]):
+        c = STACKS.index(name)
         worst[c] = max([worst[c]] + [r[k] for r in refused.values()])
-    code, tokens, oracles = header("COVENANT_MAX_CODE"), header("COVENANT_MAX_TOKENS"), header("COVENANT_MAX_ORACLES")
+    code, tokens, oracles, script = [header("COVENANT_MAX_" + name) for name in ("CODE", "TOKENS", "ORACLES", "SCRIPT")]
     frame = max(readers[0] / 4, readers[1] / 6)  # an operation on values has four tokens at least, one on indexes six
     scale = LONGER // tokens
     more = {c: (LONGER - tokens) * (ARRAYS[c] + (frame if c.startswith("Decode") else 0)) for c in STACKS}
-    now, then = lent(code, tokens, oracles), lent(scale * code, LONGER, (LONGER - 12) // 14 + 1)
+    now, then = lent(code, tokens, oracles, script), lent(scale * code, LONGER, (LONGER - 12) // 14 + 1, scale * script)
     out = ["# Memory", "", "Measured by `make bench` on x86-64. The unit has %d KiB for everything. Figures are bytes." % (UNIT_BYTES >> 10), ""]
     out += ["The archive has %d bytes of code and %d of constants, and no data of its own: nothing is allocated or kept between calls." % (text, rodata), ""]
     out += ["## Each call at its worst", ""]
@@ -178,7 +180,7 @@ def memory(rows, refused, cases, readers):
         sys.exit("a call takes more memory than its limit: %s of %s" % (largest, LIMITS))
     out += ["What is lent:", ""]
     out += ["- %s: %s; at %d tokens %s." % (c, ", ".join("%s %d" % p for p in now[c]), LONGER, ", ".join("%s %d" % p for p in then[c])) for c in STACKS]
-    out += ["", "## Stack by condition", "", "| condition | tokens | " + " | ".join(STACKS) + " |", "|---" * 8 + "|"]
+    out += ["", "## Stack by condition", "", "| condition | tokens | " + " | ".join(STACKS) + " |", "|---" * (2 + len(STACKS)) + "|"]
     for s in shapes(rows):
         for size in (256, 512, 1024):
             tokens, stack = rows[s, size][:2]
@@ -200,6 +202,7 @@ WHY = {
     "Write": "it has a Check in it; where there are lookups, a pass that marks left operands of index Mul and Div; where there are oracle terminals, one that finds the different keys; then the "
              "pass that writes records of three fields and the keys. The Rust writes bytes.",
     "Decode": "a refusal must not write, so that a form is gone over four times: when the row before each place is noted, by the readers, by the judge of the oracle rule, and when its code is written.",
+    "Script": "it has a Check in it; where there are lookups, a pass that marks left operands of index Mul and Div; then one pass that writes the bytes.",
 }
 
 
@@ -217,6 +220,7 @@ def above(rows):
             span([100 * r[3][0] / r[3][1] for r in whole], "%.0f%%"), span([(r[3][1] - r[3][0]) / r[5] for r in whole], "%.0f")),
         "Write": "What is not Check takes %s instructions a command." % span([(r[3][2] - r[3][0]) / r[5] for r in whole], "%.0f"),
         "Decode": "It takes %s instructions a token." % span([r[3][3] / r[0] for r in whole], "%.0f"),
+        "Script": "What is not Check takes %s instructions a command." % span([(r[3][4] - r[3][0]) / r[5] for r in whole], "%.0f"),
     }
     out = ["## What is above 1.00, and why", "", "Instructions a command or token are those of the conditions of about 1,024 tokens.", ""]
     for c, name in enumerate(CALLS):
@@ -280,8 +284,8 @@ def speed(rows, refused, lent):
     out = ["# Speed", ""]
     out += paragraph("Measured by `make bench`, both sides in one run: the archive, and the published Rust over the stand-ins of tests/compare, compiled with -O. Instructions are those of "
                      "one call, counted by callgrind, memset and memcpy (bench/memory.c) included; a ratio is ours to the Rust's. The Rust's calls are `Arith::new`, `eval`, "
-                     "`push_to_builder` and `from_tokens`, of a tree that is already built or to be built on the heap; ours take condition code or token records as they are lent, and "
-                     "check them on every call.")
+                     "`push_to_builder`, `from_tokens` and, for Script, `push_to_builder` again, of a tree that is already built or to be built on the heap; ours take condition "
+                     "code or token records as they are lent, and check them on every call.")
     out += above(rows) + goals(rows)
     for c, name in enumerate(CALLS):
         out += ["## " + name, "", "| condition | tokens | commands | ours | Rust | ratio | ns ours | ns Rust |", "|---|---|---|---|---|---|---|---|"]
@@ -299,10 +303,10 @@ def speed(rows, refused, lent):
             tokens, _, _, a, b = rows[s, size][:5]
             theirs, code, records = b[3] + b[1], a[1], a[3] + a[1]
             out.append("| %s | %d | %.0f | %.0f | %.2f | %.0f | %.2f |" % (s, tokens, theirs, code, code / theirs, records, records / theirs))
-    out += ["", "## Growth", "", "Instructions a token at 1,024 tokens over those at 256: 1.00 is linear.", "", "| condition | " + " | ".join(CALLS) + " |", "|---|---|---|---|---|"]
+    out += ["", "## Growth", "", "Instructions a token at 1,024 tokens over those at 256: 1.00 is linear.", "", "| condition | " + " | ".join(CALLS) + " |", "|---" * (1 + len(CALLS)) + "|"]
     for s in shapes(rows):
         small, large = rows[s, 256], rows[s, 1024]
-        out.append("| %s | %s |" % (s, " | ".join("%.2f" % (large[3][c] / large[0] / (small[3][c] / small[0])) for c in range(4))))
+        out.append("| %s | %s |" % (s, " | ".join("%.2f" % (large[3][c] / large[0] / (small[3][c] / small[0])) for c in range(len(CALLS)))))
     out += [""] + search(rows)
     out += ["## Against %d ms" % UNIT_MS, ""]
     out += paragraph("A call of the unit may take %d ms. The slowest that was measured of each call, at one instruction a nanosecond; Decode also on the token lists that docs/MEMORY.md "

@@ -1,4 +1,5 @@
-//! bench FILE: for each line of bench/shapes.py the time of the published Rust's calls, in nanoseconds, the least of 40 rounds: new, eval, push_to_builder, from_tokens.
+//! bench FILE: for each line of bench/shapes.py the time of the published Rust's calls, in nanoseconds, the least of 40 rounds: new, eval, push_to_builder, from_tokens, and
+//! push_to_builder again, which both Write and Script are held against.
 //! bench FILE LINE CALL: makes that one call ten times, for callgrind.
 #[allow(dead_code)]
 mod common;
@@ -54,7 +55,7 @@ fn least<T>(once: bool, mut make: impl FnMut() -> T, mut f: impl FnMut(T)) -> f6
         .fold(f64::MAX, f64::min)
 }
 
-fn row(code: &[u8], only: Option<usize>) -> [f64; 4] {
+fn row(code: &[u8], only: Option<usize>) -> [f64; 5] {
     let c = tree(code).unwrap();
     let amount = Amount::Explicit(1);
     let spent = vec![TxOut { value: amount }; 4];
@@ -72,7 +73,7 @@ fn row(code: &[u8], only: Option<usize>) -> [f64; 4] {
     let once = only.is_some();
     let wanted = |i| only.is_none_or(|n| n == i);
     let mut kept = vec![];
-    let mut answer = [0.0; 4];
+    let mut answer = [0.0; 5];
     if wanted(0) {
         // what `Arith::new` made is dropped outside the time
         answer[0] = least(once, || (x.clone(), y.clone()), |s| kept.push(bench_new(op, s)));
@@ -83,8 +84,8 @@ fn row(code: &[u8], only: Option<usize>) -> [f64; 4] {
             black_box(bench_eval(black_box(&c), &env, &mut s));
         });
     }
-    if wanted(2) {
-        answer[2] = least(once, || (), |()| {
+    for i in [2, 4].into_iter().filter(|i| wanted(*i)) {
+        answer[i] = least(once, || (), |()| {
             black_box(bench_write(black_box(&c)));
         });
     }
@@ -109,8 +110,8 @@ fn run() {
             }
             Some(_) => (),
             None => {
-                let [a, b, c, d] = row(&code, None);
-                println!("{} {} {a:.0} {b:.0} {c:.0} {d:.0}", f[0], f[1]);
+                let times = row(&code, None).map(|t| format!(" {t:.0}")).concat();
+                println!("{} {}{times}", f[0], f[1]);
             }
         }
     }
