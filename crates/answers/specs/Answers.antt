@@ -7,12 +7,14 @@ use lib.ListN.{length, take}
 use Rattle.semantics.specs.declared.Checked.{Checked}
 use Rattle.semantics.specs.declared.Decoded.{Decoded}
 use Rattle.semantics.specs.declared.Evaluated.{Evaluated}
+use Rattle.semantics.specs.declared.ScriptWritten.{ScriptWritten}
 use Rattle.semantics.specs.declared.Verdict.{Verdict}
 use Rattle.semantics.specs.declared.Written.{Written}
 use Rattle.semantics.specs.Refusals.{numbered}
 use Rattle.answers.specs.declared.CheckAnswer.{CheckAnswer}
 use Rattle.answers.specs.declared.DecodeAnswer.{DecodeAnswer}
 use Rattle.answers.specs.declared.EvaluateAnswer.{EvaluateAnswer}
+use Rattle.answers.specs.declared.ScriptAnswer.{ScriptAnswer}
 use Rattle.answers.specs.declared.WriteAnswer.{WriteAnswer}
 
 -- "Check adds nothing"; `place` is refusal 2's offset
@@ -34,6 +36,11 @@ evaluateAnswer e = verdictAnswer (e .verdict) (e .checks) (e .left)
 abbrev pub writeAnswer : Written → WriteAnswer
 writeAnswer (Written.Records records keyBytes) = record { number = 0; place = 0; records = records; «key_bytes» = keyBytes }
 writeAnswer (Written.Refused r) = record { number = numbered r .number; place = numbered r .first; records = 0; «key_bytes» = 0 }
+
+-- R-3: how many bytes the script has
+abbrev pub scriptAnswer : ScriptWritten → ScriptAnswer
+scriptAnswer (ScriptWritten.Script bytes) = record { number = 0; place = 0; «script_bytes» = bytes }
+scriptAnswer (ScriptWritten.Refused r) = record { number = numbered r .number; place = numbered r .first; «script_bytes» = 0 }
 
 -- "Decode the code length and the tail's start"; `place` is refusal 9's token
 abbrev pub decodeAnswer : Decoded → DecodeAnswer

@@ -1,10 +1,11 @@
 // Each call's answer in document 01's numbers: success is 0, and place and data are 0 where none is named.
 use semantics::Checked;
 use semantics::Decoded;
+use semantics::ScriptWritten;
 use semantics::Verdict;
 use semantics::Written;
 ghost use mathlib.Core.Path.{_≡_};
-ghost use Rattle.answers.specs.Answers.{checkAnswer, decodeAnswer, verdictAnswer, writeAnswer};
+ghost use Rattle.answers.specs.Answers.{checkAnswer, decodeAnswer, scriptAnswer, verdictAnswer, writeAnswer};
 
 // `covenant_checked`
 #[repr(C)]
@@ -31,6 +32,14 @@ pub struct WriteAnswer {
     pub place: u64,
     pub records: u64,
     pub key_bytes: u64,
+}
+
+// `covenant_script_written`
+#[repr(C)]
+pub struct ScriptAnswer {
+    pub number: u32,
+    pub place: u64,
+    pub script_bytes: u64,
 }
 
 // `covenant_decoded`
@@ -106,6 +115,27 @@ pub fn write_answer(answer: Written) -> WriteAnswer
                 place: n.first,
                 records: 0,
                 key_bytes: 0,
+            }
+        }
+    }
+}
+
+// Of Write Script: with a refusal no byte is reported.
+pub fn script_answer(answer: ScriptWritten) -> ScriptAnswer
+    ensures { λ r. ⌜ r ≡ scriptAnswer answer ⌝ }
+{
+    match answer {
+        ScriptWritten::Script(bytes) => ScriptAnswer {
+            number: 0,
+            place: 0,
+            script_bytes: bytes as u64,
+        },
+        ScriptWritten::Refused(r) => {
+            let n = refusals::number_of(r);
+            ScriptAnswer {
+                number: n.number,
+                place: n.first,
+                script_bytes: 0,
             }
         }
     }

@@ -4,3 +4,4 @@ pub mod Waiting
 pub mod Turns
 pub mod Pass
 pub mod Unmarked
+pub mod Arrays

@@ -4,6 +4,7 @@ pub mod token_records;
 use answers::CheckAnswer;
 use answers::DecodeAnswer;
 use answers::EvaluateAnswer;
+use answers::ScriptAnswer;
 use answers::WriteAnswer;
 ghost use mathlib.Core.Path.{_≡_};
 ghost use Rattle.semantics.specs.Check.{checked};
@@ -13,7 +14,8 @@ ghost use Rattle.semantics.specs.Meaning.{CallToldApart, CallUnambiguous};
 ghost use Rattle.semantics.specs.Write.{wrote};
 ghost use Rattle.amounts.specs.Lists.{envOf};
 ghost use Rattle.semantics.specs.Records.{recordsOf};
-ghost use Rattle.answers.specs.Answers.{AnswerAccepts, checkAnswer, decodeAnswer, evaluateAnswer, writeAnswer};
+ghost use Rattle.answers.specs.Answers.{AnswerAccepts, checkAnswer, decodeAnswer, evaluateAnswer, scriptAnswer, writeAnswer};
+ghost use Rattle.script.specs.WriteScript.{wroteScript};
 
 // Check: `code` is lent and only read. Refusals 1 to 5.
 #[no_mangle]
@@ -95,4 +97,13 @@ pub extern "C" fn covenant_decode(
     ensures { λ r. ⌜ CallToldApart (recordsOf (now (kinds .entry)) (now (numbers .entry)) (now (places .entry)) (now (keys .entry))) (now (code .entry)) (r .number) ⌝ }
 {
     answers::decode_answer(decoder::decode(kinds, numbers, places, keys, code))
+}
+
+// Write Script: `code` is only read. The script bytes reported are written at the front of `script`. Refusals 1 to 5, 6, 7; a refusal writes nothing.
+#[no_mangle]
+pub extern "C" fn covenant_write_script(code: &[u8], script: &mut [u8]) -> ScriptAnswer
+    ensures { λ r. ⌜ r ≡ scriptAnswer (wroteScript (now (code .entry)) (now (script .entry)) .answer) ⌝ }
+    ensures { λ _. ⌜ now (script .exit) ≡ wroteScript (now (code .entry)) (now (script .entry)) .buffer ⌝ }
+{
+    answers::script_answer(script_writer::write_script(code, script))
 }

@@ -1,17 +1,20 @@
 -- The bytes of one command after another: the script of the tokens of all commands so far.
-use Prim.Native.Nat.{ℕ, _+_, _≤_, _<_}
+use Prim.Native.Nat.{ℕ, _+_, _-_, _≤_, _<_}
 use mathlib.Core.Bool.{Bool, true, false, cond}
-use mathlib.Core.Path.{_≡_, refl, sym, ap, _∙_}
+use mathlib.Core.Path.{_≡_, refl, ap, _∙_}
 use mathlib.Core.List.{List, [], _∷_, _++_, append-nil}
 use native.Mathlib.Omega.{arith}
+use borrow.Rule.Slice.PartMut.{midOf, putMid}
 use lib.ListN.{length, getD, length-append}
+use Rattle.slices.specs.Bytes.{Front}
+use Rattle.slices.proofs.Front.{front-none, front-rest}
 use Rattle.semantics.specs.declared.AmountList.{AmountList}
 use Rattle.semantics.specs.declared.BinOp.{BinOp}
 use Rattle.semantics.specs.declared.CmpOp.{CmpOp}
 use Rattle.semantics.specs.declared.Command.{Command}
 use Rattle.semantics.specs.declared.IdxOp.{IdxOp}
 use Rattle.semantics.specs.declared.UnOp.{UnOp}
-use Rattle.semantics.specs.Code.{commandRow, known}
+use Rattle.semantics.specs.Code.{commandRow}
 use Rattle.semantics.specs.Operations.{Token}
 use Rattle.semantics.specs.Parse.{after, commandAt, operandBytes}
 use Rattle.condition.specs.Walk.{Passed}
@@ -67,15 +70,18 @@ starts Command.PriceOracle1 n marked = refl
 starts Command.PriceOracle1W n marked = refl
 starts (Command.Compare o) n marked = elim o [ CmpOp.Eq ↦ refl | CmpOp.Lt ↦ refl | CmpOp.Leq ↦ refl | CmpOp.Gt ↦ refl | CmpOp.Geq ↦ refl ]
 
+pub no-bytes : length (script []) ≡ 0
+unfolding script
+no-bytes = refl
+
 -- the script of the commands before `at` has n bytes
 pub record Counted (code : List ℕ) (marks : List Bool) (at count n : ℕ) : Type 0 where
   pub done : List Token
   pub emitting : Emitting code marks at count done
   pub n-is : length (script done) ≡ n
 
-pub none-counted : (code : List ℕ) (marks : List Bool) → Passed code (λ s. s .tokens ≤ length marks) → Counted code marks 0 0 0
-unfolding script
-none-counted code marks p = record { done = []; emitting = none-emitted code marks p; n-is = refl }
+abbrev pub none-counted : (code : List ℕ) (marks : List Bool) → Passed code (λ s. s .tokens ≤ length marks) → Counted code marks 0 0 0
+none-counted code marks p = record { done = []; emitting = none-emitted code marks p; n-is = no-bytes }
 
 module _ (code : List ℕ) (marks : List Bool) (at count n : ℕ) (g : Counted code marks at count n) where
   pub all-counted : length code ≤ at → script (g .done) ≡ script (emitted code marks)
@@ -99,10 +105,28 @@ module _ (code : List ℕ) (marks : List Bool) (at count n : ℕ) (g : Counted c
         script-append (g .done) tokens
         (starts (commandAt code at) (operandBytes (commandAt code at) code (at + 1)) (getD marks count false))
 
-    pub one-counted : Counted code marks (after code at) (count + 1) (n + length bytesHere)
-    one-counted =
+    abbrev pub one-counted : (m : ℕ) → length bytesHere ≡ m → Counted code marks (after code at) (count + 1) (n + m)
+    one-counted m e =
         record {
           done = g .done ++ tokens;
           emitting = one-emitted code marks at count (g .done) (g .emitting) inside;
-          n-is = ap length bytes-join ∙ length-append (script (g .done)) bytesHere ∙ omega (arith, g .n-is);
+          n-is = ap length bytes-join ∙ length-append (script (g .done)) bytesHere ∙ omega (arith, g .n-is, e);
         }
+
+-- and they are written over the front of `old`
+pub record Pushed (code : List ℕ) (marks : List Bool) (old now : List ℕ) (at count n : ℕ) : Type 0 where
+  pub counted : Counted code marks at count n
+  pub front : Front now old (script (counted .done)) n
+
+pub none-pushed : (code : List ℕ) (marks : List Bool) (old : List ℕ) → Passed code (λ s. s .tokens ≤ length marks) → Pushed code marks old old 0 0 0
+unfolding script
+none-pushed code marks old p = record { counted = none-counted code marks p; front = front-none old }
+
+pub one-pushed : (code : List ℕ) (marks : List Bool) (old now : List ℕ) (at count n : ℕ) (g : Pushed code marks old now at count n) (inside : at < length code)
+    (last : List ℕ) (m : ℕ) → Front last (midOf n (length now - n) now) (bytesHere code marks at count n (g .counted) inside) m
+    → Pushed code marks old (putMid n (length now - n) now last) (after code at) (count + 1) (n + m)
+one-pushed code marks old now at count n g inside last m f =
+    record {
+      counted = one-counted code marks at count n (g .counted) inside m (f .long);
+      front = rw (bytes-join code marks at count n (g .counted) inside) (front-rest (g .front) f);
+    }

@@ -173,7 +173,12 @@ fn push_next(code: &[u8], at: usize, marked: bool, out: &mut [u8]) -> Next
 {
     let here = commands::next(code, at);
     let command = here.command;
-    let own = push_piece(piece_of(command, code, here.operands), code, here.operands, out);
+    let own = push_piece(
+        piece_of(command, code, here.operands),
+        code,
+        here.operands,
+        out,
+    );
     if marked {
         out[own] = opcodes::SCRIPTNUMTOLE64;
         return Next {
@@ -234,20 +239,26 @@ fn push_script(code: &[u8], marks: &[bool], out: &mut [u8]) -> usize
 
 // ---- the call
 
-// Refusals 6 and 7, then the script, of a condition that Check let pass.
-fn write_passed(code: &[u8], tokens: usize, oracles: usize, lookups: usize, out: &mut [u8]) -> ScriptWritten
-    requires { ⌜ (checked (now code) ≡ Checked.Passed tokens oracles) × Passed (now code) (λ s. s .lookups ≡ lookups) ⌝ }
+// Refusals 6 and 7, then the script, of a condition that Check let pass; the arrays have room for as many operands and marks as it has tokens, and no mark is set.
+fn write_with(
+    code: &[u8],
+    tokens: usize,
+    oracles: usize,
+    lookups: usize,
+    out: &mut [u8],
+    waiting: &mut [u16],
+    marks: &mut [bool],
+) -> ScriptWritten
+    requires { ⌜ (checked (now code) ≡ Checked.Passed tokens oracles) × Passed (now code) (Fits lookups (length (now waiting)) (length (now marks))) × Unmarked (now marks) ⌝ }
     ensures { λ r. ⌜ record { answer = r; buffer = now (out .exit) } ≡ wroteScript (now (code .entry)) (now (out .entry)) ⌝ }
 {
-    let mut waiting = [0; MAX_TOKENS];
-    let mut marks = [false; MAX_TOKENS];
-    if !conversions::mark(code, lookups, &mut waiting, &mut marks) {
+    if !conversions::mark(code, lookups, waiting, marks) {
         return ScriptWritten::Refused(Refusal::IndexConstTooLarge);
     }
-    if !has_room(code, &marks, out.len()) {
+    if !has_room(code, marks, out.len()) {
         return ScriptWritten::Refused(Refusal::BufferTooShort);
     }
-    ScriptWritten::Script(push_script(code, &marks, out))
+    ScriptWritten::Script(push_script(code, marks, out))
 }
 
 // Writes the script of a condition at the front of what is lent; or gives the first of the refusals 1 to 5, 6, 7, and writes nothing.
@@ -256,6 +267,18 @@ pub fn write_script(code: &[u8], out: &mut [u8]) -> ScriptWritten
 {
     match condition::examine(code) {
         Examined::Refused(r) => ScriptWritten::Refused(r),
-        Examined::Passed(s) => write_passed(code, s.tokens as usize, s.oracles, s.lookups, out),
+        Examined::Passed(s) => {
+            let mut waiting = [0; MAX_TOKENS];
+            let mut marks = [false; MAX_TOKENS];
+            write_with(
+                code,
+                s.tokens as usize,
+                s.oracles,
+                s.lookups,
+                out,
+                &mut waiting,
+                &mut marks,
+            )
+        }
     }
 }

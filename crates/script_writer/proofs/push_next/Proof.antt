@@ -1,9 +1,7 @@
 -- A piece's bytes, and one more where the command is marked (`command-bytes`).
-use borrow.Author.Needs.{needs}
 use Prim.Native.Nat.{ℕ, _+_, _≤_}
-use mathlib.Core.Bool.{true, false, cond}
 use mathlib.Core.Path.{_≡_, sym, ap, _∙_}
-use mathlib.Core.List.{List, [], _∷_, _++_, append-nil}
+use mathlib.Core.List.{List, _++_}
 use native.Mathlib.Omega.{arith}
 use lib.ListN.{length, length-append, length-set}
 use Rattle.slices.specs.Bytes.{Front}

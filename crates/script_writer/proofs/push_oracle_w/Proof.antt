@@ -54,8 +54,12 @@ module _ (q : tie.After-push-oracle) where
 
   count₂ : n₂ ≡ 51
   count₂ =
-      omega (arith, one p₂ .long, q .push-oracle .ensures .long,
-      oracle-long key time (part-length (s₂ .args .code .now) (s₂ .args .at) 32 (omega (arith, s₂ .pre .0))))
+      omega (
+        arith,
+        one p₂ .long,
+        q .push-oracle .ensures .long,
+        oracle-long key time (part-length (s₂ .args .code .now) (s₂ .args .at) 32 (omega (arith, s₂ .pre .0))),
+      )
 
   long₂ : length now₂ ≡ length (s₂ .args .out .now)
   long₂ = front-length two (omega (arith, count₂, s₂ .pre .1))
