@@ -4,3 +4,4 @@ pub mod Numbers
 pub mod Pushes
 pub mod Lists
 pub mod Size
+pub mod Examples

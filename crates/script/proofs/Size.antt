@@ -1,15 +1,15 @@
--- A script is bytes, and at most five for each token of a condition of up to 1,024 tokens: 5,120, which 512 constants joined by `bitxor`, one of them inverted, have.
-use Prim.Native.Nat.{ℕ, zero, suc, _+_, _*_, _%_, _<_, _≤_}
+-- How many bytes the script of a condition has: at most five for each token of one of up to 1,024 tokens, so 5,120, which `longest` has.
+use Prim.Native.Nat.{ℕ, zero, suc, _+_, _*_, _%_, _≤_}
 use mathlib.Core.Bool.{Bool, true, false, _&&_, cond}
 use mathlib.Core.Logic.{_⊎_, inl, inr}
 use mathlib.Core.Path.{_≡_, refl}
 use mathlib.Core.List.{List, [], _∷_, _++_}
 use native.Mathlib.Omega.{arith}
-use borrow.Author.Tests.{eqb-true, leb-true, ltb-true}
-use lib.Dec.{eqb, leb, ltb}
+use borrow.Author.Tests.{eqb-true}
+use lib.Dec.{eqb, leb}
 use lib.ListN.{length, length-append}
-use Rattle.slices.specs.Bytes.{All, Bytes, littleEndian}
-use Rattle.slices.proofs.Bytes.{all-getD, all-join, length-littleEndian, littleEndian-bytes}
+use Rattle.slices.specs.Bytes.{littleEndian}
+use Rattle.slices.proofs.Bytes.{length-littleEndian}
 use Rattle.semantics.specs.Operations.{binRow, cmpRow, idxRow, listRow, unRow}
 use Rattle.semantics.specs.Trees.{Arith, Expr, IdxExpr}
 use Rattle.semantics.specs.declared.AmountList.{AmountList}
@@ -17,62 +17,12 @@ use Rattle.semantics.specs.declared.BinOp.{BinOp}
 use Rattle.semantics.specs.declared.CmpOp.{CmpOp}
 use Rattle.semantics.specs.declared.IdxOp.{IdxOp}
 use Rattle.semantics.specs.declared.UnOp.{UnOp}
-use Rattle.semantics.specs.Meaning.{Sound, SoundAs}
 use Rattle.semantics.specs.Operations.{Token}
 use Rattle.semantics.specs.Token.{exprForm, form, idxForm, oracleForm}
 use Rattle.semantics.proofs.Encodable.{Encodable, ExprEncodable}
 use Rattle.semantics.proofs.Tests.{and-true}
 use Rattle.script.proofs.Numbers.{width-most}
 use Rattle.script.specs.Script.{bytesAs, bytesOf, equalVerify, numberWidth, opcodes, pushInt, script, scriptAfter, startsVerify}
-
--- ---- bytes
-
-abbrev Byte : ℕ → Type 0
-Byte b = b < 256
-
-number-bytes : (n : ℕ) → Bytes (pushInt n)
-unfolding pushInt
-number-bytes n = go (leb 1 n && leb n 16) refl
-  where
-    go : (t : Bool) → (leb 1 n && leb n 16) ≡ t → Bytes (cond t ((0x50 + n) ∷ []) (numberWidth n ∷ littleEndian (numberWidth n) n))
-    go true e = let h = leb-true n 16 (and-true (leb 1 n) (leb n 16) e .1) in (omega arith, tt)
-    go false e = (omega (arith, width-most n), littleEndian-bytes (numberWidth n) n)
-
-abbrev areBytes : List ℕ → Bool
-areBytes [] = true
-areBytes (b ∷ bs) = ltb b 256 && areBytes bs
-
-are-bytes : (bs : List ℕ) → areBytes bs ≡ true → Bytes bs
-are-bytes [] e = tt
-are-bytes (b ∷ bs) e = let p = and-true (ltb b 256) (areBytes bs) e in (ltb-true b 256 (p .0), are-bytes bs (p .1))
-
-opcodes-bytes : Bytes opcodes
-unfolding opcodes
-opcodes-bytes = are-bytes opcodes refl
-
-token-bytes : (kind number : ℕ) (key : List ℕ) → SoundAs kind number key → Bytes (bytesAs kind number key)
-token-bytes zero number key s = tt
-token-bytes (suc zero) number key s = number-bytes number
-token-bytes (suc (suc zero)) number key s = (omega arith, littleEndian-bytes 8 number)
-token-bytes (suc (suc (suc zero))) number key s = (omega arith, s .2)
-token-bytes (suc (suc (suc (suc k)))) number key s = (all-getD Byte opcodes k 0 (omega arith) opcodes-bytes, tt)
-
-after-bytes : (joined : Bool) (ts : List Token) → All Sound ts → Bytes (scriptAfter joined ts)
-after-bytes joined [] s = tt
-after-bytes true (t ∷ ts) s = after-bytes false ts (s .1)
-after-bytes false (t ∷ ts) s =
-    let joined = eqb (t .kind) 14 && startsVerify ts in
-    all-join Byte (cond joined (equalVerify ∷ []) (bytesOf t)) (scriptAfter joined ts) (go joined) (after-bytes joined ts (s .1))
-  where
-    go : (joined : Bool) → Bytes (cond joined (equalVerify ∷ []) (bytesOf t))
-    go true = (omega arith, tt)
-    go false = token-bytes (t .kind) (t .number) (t .key) (s .0)
-
-pub script-bytes : (ts : List Token) → All Sound ts → Bytes (script ts)
-unfolding script
-script-bytes = after-bytes false
-
--- ---- how many
 
 -- without joining Equal and Verify
 abbrev sizes : List Token → ℕ
@@ -221,3 +171,17 @@ script-fits a w n h = go (form-size a w)
     go : Fits (sizes (form a)) (length (form a)) → length (scriptAfter false (form a)) ≤ 5 * (2 * n)
     go (inl f) = omega (arith, after-sizes false (form a))
     go (inr f) = omega (arith, after-sizes false (form a), f .0, f .1)
+
+-- ---- the longest
+
+constants : ℕ → Expr
+constants zero = Expr.Const 0
+constants (suc n) = Expr.Binary BinOp.Xor (constants n) (Expr.Const 0)
+
+-- 511 constants joined by `bitxor`, inverted, and one more that they are compared with
+pub longest : Arith
+longest = Arith.Compare CmpOp.Eq (Expr.Unary UnOp.Invert (constants 510)) (Expr.Const 0)
+
+pub longest-script : (length (form longest) ≡ 1024) × (length (script (form longest)) ≡ 5120)
+unfolding longest constants form exprForm script littleEndian opcodes
+longest-script = (refl, refl)
