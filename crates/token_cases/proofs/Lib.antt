@@ -1,3 +1,4 @@
 -- Laws of the definitions in specs/.
 pub mod Decoding
+pub mod ScriptWriting
 pub mod Writing

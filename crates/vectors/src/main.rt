@@ -20,6 +20,7 @@ fn agrees(call: u8, body: &[u8]) -> bool
         2 => condition_cases::evaluate::agrees(body),
         3 => token_cases::write::agrees(body),
         4 => token_cases::decode::agrees(body),
+        5 => token_cases::write_script::agrees(body),
         _ => false,
     }
 }
@@ -61,6 +62,7 @@ fn name(call: u8) {
         2 => text(b"Evaluate "),
         3 => text(b"Write    "),
         4 => text(b"Decode   "),
+        5 => text(b"Script   "),
         _ => text(b"no call  "),
     }
 }
@@ -82,9 +84,9 @@ fn differs(call: u8, n: u64) {
     text(b" differs\n");
 }
 
-fn count(tally: &mut [u64; 5], call: u8) -> u64 {
+fn count(tally: &mut [u64; 6], call: u8) -> u64 {
     let k = call as usize;
-    if k < 5 {
+    if k < 6 {
         tally[k] = std::num::wrapping_add_u64(tally[k], 1);
         return tally[k];
     }
@@ -92,7 +94,7 @@ fn count(tally: &mut [u64; 5], call: u8) -> u64 {
 }
 
 // Nothing says that a file ends, so the loop counts its turns down.
-fn turns(fd: i32, tally: &mut [u64; 5]) {
+fn turns(fd: i32, tally: &mut [u64; 6]) {
     let mut body = io::large_buffer();
     let mut left = u64::MAX;
     while left > 0 {
@@ -118,11 +120,12 @@ fn main() {
         os::fail(b"cases");
         return;
     }
-    let mut tally = [0u64; 5];
+    let mut tally = [0u64; 6];
     turns(fd, &mut tally);
     libc::close(fd);
     counted(1, tally[1]);
     counted(2, tally[2]);
     counted(3, tally[3]);
     counted(4, tally[4]);
+    counted(5, tally[5]);
 }
