@@ -1,5 +1,5 @@
 -- The bytes that a command writes: a few that a row has, a constant's, or an oracle terminal's.
-use Prim.Native.Nat.{ℕ, _+_, _≤_}
+use Prim.Native.Nat.{ℕ, _+_, _<_, _≤_}
 use mathlib.Core.Path.{_≡_}
 use mathlib.Core.List.{List, [], _∷_}
 use lib.ListN.{length, drop, take}
@@ -52,3 +52,7 @@ pub record Whole (p : Piece) (code : List ℕ) (at : ℕ) : Type 0 where
 pub record PieceOf (c : Command) (code : List ℕ) (at : ℕ) (p : Piece) : Type 0 where
   pub bytes : pieceAt p code at ≡ script (commandRow c .tokens (operandBytes c code at))
   pub whole : Whole p code at
+
+-- the opcode is all that a command writes; of 0 nothing is said
+abbrev pub SingleOpcode : Command → ℕ → Type 0
+SingleOpcode c opcode = 0 < opcode → (commandRow c .width ≡ 0) × ((n : List ℕ) → script (commandRow c .tokens n) ≡ opcode ∷ [])

@@ -16,7 +16,7 @@ ghost use lib.ListN.{length, take, drop};
 ghost use Rattle.slices.specs.Bytes.{Front, bytesValue};
 ghost use Rattle.semantics.specs.declared.Checked.{Checked};
 ghost use Rattle.semantics.specs.Check.{checked};
-ghost use Rattle.semantics.specs.Code.{commandRow, maxTokens};
+ghost use Rattle.semantics.specs.Code.{commandOf, commandRow, maxTokens};
 ghost use Rattle.semantics.specs.Parse.{after, commandAt, operandBytes};
 ghost use Rattle.semantics.specs.Token.{oracleForm, oracleWForm};
 ghost use Rattle.condition.specs.Walk.{Passed};
@@ -26,7 +26,7 @@ ghost use Rattle.forms.specs.Emitted.{emitted};
 ghost use Rattle.script.specs.Script.{script};
 ghost use Rattle.script.specs.WriteScript.{wroteScript};
 ghost use Rattle.script_writer.specs.declared.Shape.{Shape};
-ghost use Rattle.script_writer.specs.Pieces.{PieceOf, Whole, pieceAt, pieceLength};
+ghost use Rattle.script_writer.specs.Pieces.{PieceOf, SingleOpcode, Whole, pieceAt, pieceLength};
 
 // ---- one command
 
@@ -167,7 +167,7 @@ fn next_length(code: &[u8], at: usize, marked: bool) -> Next
 }
 
 // The bytes of the command at a place, at the front of what is lent.
-fn push_next(code: &[u8], at: usize, marked: bool, out: &mut [u8]) -> Next
+fn push_command(code: &[u8], at: usize, marked: bool, out: &mut [u8]) -> Next
     requires { ⌜ (after (now code) at ≤ length (now code)) × (length (script (tokensOf (commandAt (now code) at) (operandBytes (commandAt (now code) at) (now code) (at + 1)) marked)) ≤ length (now out)) ⌝ }
     ensures { λ r. ⌜ Front (now (out .exit)) (now (out .entry)) (script (tokensOf (commandAt (now (code .entry)) at) (operandBytes (commandAt (now (code .entry)) at) (now (code .entry)) (at + 1)) marked)) (r .bytes) × (r .next ≡ after (now (code .entry)) at) ⌝ }
 {
@@ -190,6 +190,45 @@ fn push_next(code: &[u8], at: usize, marked: bool, out: &mut [u8]) -> Next
         bytes: own,
         next: here.next,
     }
+}
+
+// The opcode that is all that a byte's command writes, or 0 where it writes more.
+fn single_opcode(byte: u8) -> u8
+    ensures { λ r. ⌜ SingleOpcode (commandOf byte) r ⌝ }
+{
+    match byte {
+        2 => opcodes::PUSHCURRENTINPUTINDEX,
+        3 => opcodes::ADD,
+        4 => opcodes::SUB,
+        27 => opcodes::AND,
+        28 => opcodes::OR,
+        29 => opcodes::XOR,
+        30 => opcodes::INVERT,
+        48 => opcodes::EQUAL,
+        49 => opcodes::LESSTHAN64,
+        50 => opcodes::LESSTHANOREQUAL64,
+        51 => opcodes::GREATERTHAN64,
+        52 => opcodes::GREATERTHANOREQUAL64,
+        _ => 0,
+    }
+}
+
+// The same as `push_command`; most commands are one opcode, which is written at once.
+fn push_next(code: &[u8], at: usize, marked: bool, out: &mut [u8]) -> Next
+    requires { ⌜ (after (now code) at ≤ length (now code)) × (length (script (tokensOf (commandAt (now code) at) (operandBytes (commandAt (now code) at) (now code) (at + 1)) marked)) ≤ length (now out)) ⌝ }
+    ensures { λ r. ⌜ Front (now (out .exit)) (now (out .entry)) (script (tokensOf (commandAt (now (code .entry)) at) (operandBytes (commandAt (now (code .entry)) at) (now (code .entry)) (at + 1)) marked)) (r .bytes) × (r .next ≡ after (now (code .entry)) at) ⌝ }
+{
+    if !marked {
+        let opcode = single_opcode(code[at]);
+        if opcode != 0 {
+            out[0] = opcode;
+            return Next {
+                bytes: 1,
+                next: at + 1,
+            };
+        }
+    }
+    push_command(code, at, marked, out)
 }
 
 // How many bytes the script has of code whose commands have these marks.
