@@ -254,10 +254,9 @@ pub fn push_row(row: ScriptRow, out: &mut [u8]) -> usize
     requires { ⌜ (row .count ≤ 7) × (length (row .bytes) ≡ 7) × (row .count ≤ length (now out)) ⌝ }
     ensures { λ r. ⌜ Front (now (out .exit)) (now (out .entry)) (take (row .count) (row .bytes)) r ⌝ }
 {
-    let bytes = row.bytes;
     let mut j = 0;
     while j < row.count {
-        out[j] = bytes[j];
+        out[j] = row.bytes[j];
         j += 1;
     }
     j
