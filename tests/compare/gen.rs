@@ -58,10 +58,12 @@ fn oracle(r: &mut Random, c: u8, out: &mut Vec<u8>) {
     out.extend(r.time(8).to_le_bytes());
 }
 
-/// What the index expressions of a case are: any at all; with constants that have a form; or such that at this current index the Rust is the comparison.
+/// What the index expressions of a case are: any at all; with constants that a script has; with those that `lex` reads back; or such that at this current index the Rust is the
+/// comparison.
 #[derive(Clone, Copy)]
 enum Indexes {
     Any,
+    Pushed,
     Formed,
     Compared(u64),
 }
@@ -73,7 +75,9 @@ fn index(r: &mut Random, size: usize, indexes: Indexes, out: &mut Vec<u8>) {
         }
         out.push(1);
         let n = match r.below(16) {
+            0 if matches!(indexes, Indexes::Pushed) => r.of(&[16, 17, 127, 128, 32767, 32768, 0x7f_ffff, 0x80_0000, NARROW, NARROW + 1, 0xffff_ffff]),
             0 => r.of(&[16, 17, 127, 128, 255, 256, 32767, 32768, NARROW]),
+            1 if matches!(indexes, Indexes::Pushed) => r.next() >> 32,
             1 if matches!(indexes, Indexes::Any) => r.wide(NARROW + 1),
             1 => r.next() % (NARROW + 1),
             _ => r.below(4) as u64,
@@ -240,7 +244,7 @@ pub fn cases(seed: u64, count: usize, mut emit: impl FnMut(String)) {
     let (mut r, mut own) = (Random(seed), Random(!seed));
     for n in 0..count {
         emit(match n % 9 {
-            8 => format!("S {}", hex(&condition(&mut own, Indexes::Formed))),
+            8 => format!("S {}", hex(&condition(&mut own, Indexes::Pushed))),
             0 => format!("C {}", hex(&condition(&mut r, Indexes::Any))),
             // Write's bytes are read back by `lex`
             1 | 2 => format!("W {}", hex(&condition(&mut r, Indexes::Formed))),
