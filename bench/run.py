@@ -202,7 +202,8 @@ WHY = {
     "Write": "it has a Check in it; where there are lookups, a pass that marks left operands of index Mul and Div; where there are oracle terminals, one that finds the different keys; then the "
              "pass that writes records of three fields and the keys. The Rust writes bytes.",
     "Decode": "a refusal must not write, so that a form is gone over four times: when the row before each place is noted, by the readers, by the judge of the oracle rule, and when its code is written.",
-    "Script": "it has a Check in it; where there are lookups, a pass that marks left operands of index Mul and Div; then one pass that writes the bytes.",
+    "Script": "it has a Check in it; where there are lookups, a pass that marks left operands of index Mul and Div; then one pass that writes the bytes. A command that is one opcode is written "
+              "at once; the bytes of another are put into a row first, and its arrays for 1,024 tokens are cleared on every call.",
 }
 
 

@@ -20,7 +20,7 @@ ghost use Rattle.script.specs.Script.{numberWidth, script};
 // The most bytes that the script of a condition may have: five for each token.
 pub const MAX_SCRIPT: usize = 5 * MAX_TOKENS;
 
-// A few bytes: how many, and the bytes; the rest is 0.
+// A few bytes: how many, and the bytes; what stands after them is not written.
 pub struct ScriptRow {
     pub count: usize,
     pub bytes: [u8; 7],
