@@ -1,4 +1,6 @@
 // Each call's answer in document 01's numbers: success is 0, and place and data are 0 where none is named.
+#![tactic(auto)]
+
 ghost use Rattle.std.specs.Prelude.{◌≡◌};
 ghost use Rattle.answers.specs.Answers.{check_answer, decode_answer, script_answer, verdict_answer, write_answer};
 

@@ -1,4 +1,6 @@
 // A case as it stands in the file (tests/vectors/generate.py says how), and whether what a call left is what the case knows.
+#![tactic(auto)]
+
 ghost use Rattle.std.specs.Prelude.{◌&&◌, ◌≡◌, min, ◌<◌, length, take};
 ghost use Rattle.cases.specs.Cases.{bytes_between, end_of, halves_of, number_at, part_of, start_of, word_of, words_of};
 ghost use Rattle.cases.specs.Known.{begins, fill, held};

@@ -1,4 +1,6 @@
 // What a byte of condition code stands for, and how many operand bytes stand behind it.
+#![tactic(auto)]
+
 ghost use Rattle.std.specs.Prelude.{◌≡◌, ◌≤◌, length, map};
 ghost use Rattle.semantics.specs.declared.Command.{Command};
 ghost use Rattle.semantics.specs.Code.{command_in, command_of, command_row, known};

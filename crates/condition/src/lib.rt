@@ -1,4 +1,6 @@
 // Check: whether bytes are condition code within the bounds that keeps the oracle rule, by one pass over its commands.
+#![tactic(auto)]
+
 ghost use Rattle.std.specs.Prelude.{◌≡◌, ◌≤◌, length};
 ghost use Rattle.semantics.specs.Code.{max_code};
 ghost use Rattle.semantics.specs.Check.{checked};

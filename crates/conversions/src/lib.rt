@@ -1,6 +1,8 @@
 // Where the token form converts an index between operands: after the left operand of an index Mul or Div stands a ScriptNumToLe64.
 // One pass over the commands marks those that end such an operand, and tests refusal 6.
 // `Command::Unknown` is not met: Check has turned down code that has it.
+#![tactic(auto)]
+
 ghost use Rattle.std.specs.Prelude.{◌≡◌, ◌∷◌, ◌+◌, ◌≤◌, ◌<◌, length};
 ghost use Rattle.semantics.specs.declared.Command.{Command};
 ghost use Rattle.semantics.specs.Code.{max_tokens};

@@ -1,4 +1,6 @@
 // The unit's boundary: the calls as C sees them (include/covenant.h), thin over the crates that make them.
+#![tactic(auto)]
+
 pub mod token_records;
 
 ghost use Rattle.std.specs.Prelude.{◌≡◌};

@@ -1,4 +1,6 @@
 // Numbers as decimal text, which is written from its last character on: it ends where the slice ends, and the answer says where it begins.
+#![tactic(auto)]
+
 ghost use Rattle.std.specs.Prelude.{◌≤◌, ◌≡◌, length};
 ghost use Rattle.word64.specs.Bits.{signed_of};
 ghost use Rattle.decimals.specs.Decimal.{Ending, decimal, signed};

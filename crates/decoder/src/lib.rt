@@ -1,5 +1,7 @@
 // Decode: the condition code of which the last token records are the token form. The row before each place is noted; the readers find where the form begins; then its oracle rule and length are
 // judged, and it is written straight into the lent buffer.
+#![tactic(auto)]
+
 ghost use Rattle.std.specs.Prelude.{◌≡◌};
 ghost use Rattle.semantics.specs.Decode.{decode, decoded, decoded_as};
 ghost use Rattle.semantics.specs.Meaning.{CallAccepts, CallToldApart, CallUnambiguous, decoded_number};

@@ -1,4 +1,6 @@
 // The code of the tokens that were read: a piece for each production, from the last token back. First the oracle rule and the length are judged, and then the pieces are written.
+#![tactic(auto)]
+
 ghost use Rattle.std.specs.Prelude.{◌≡◌, ◌||◌, List, [], ◌∷◌, ◌++◌, ℕ, ◌+◌, ◌-◌, ◌≤◌, ◌<◌, length, take, drop};
 ghost use Rattle.slices.specs.Bytes.{little_endian, over};
 ghost use Rattle.semantics.specs.Code.{max_tokens};

@@ -1,4 +1,6 @@
 // Evaluate: the verdict of a condition at an input of a transaction, with the signature checks that it rests on, or why there is none.
+#![tactic(auto)]
+
 ghost use Rattle.std.specs.Prelude.{true, ◌≡◌, [], ◌*◌, ◌≤◌, length};
 ghost use Rattle.semantics.specs.Evaluate.{ends_sound, evaluated};
 ghost use Rattle.semantics.specs.Evaluation.{check_size, popping};

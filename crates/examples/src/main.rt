@@ -1,4 +1,6 @@
 // Document 01's worked examples as a table: the example's number, what is asked, and what is answered.
+#![tactic(auto)]
+
 ghost use Rattle.std.specs.Prelude.{◌≡◌};
 ghost use Rattle.examples.specs.Const.{with_const};
 

@@ -1,4 +1,6 @@
 // Write and Decode where the fields of token records stand in slices of numbers: what they answer is said of the records.
+#![tactic(auto)]
+
 ghost use Rattle.std.specs.Prelude.{◌≡◌, List, ◌≤◌, length};
 ghost use Rattle.semantics.specs.Code.{max_tokens};
 ghost use Rattle.records.specs.declared.TokenRecord.{TokenRecord};

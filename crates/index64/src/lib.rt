@@ -1,4 +1,6 @@
 // Index steps on signed numbers: each contract is an equation with a definition of specs/ over whole numbers.
+#![tactic(auto)]
+
 ghost use Rattle.std.specs.Prelude.{◌≡◌, pos};
 ghost use Rattle.index64.specs.Steps.{idx_add, idx_sub, idx_mul, idx_div, in_range, stepped, within};
 

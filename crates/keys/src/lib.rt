@@ -1,5 +1,7 @@
 // The keys of a condition: where each stands in its code, equal keys once, in the order of the first command that names them. A key's place in the key buffer
 // follows from its number among them.
+#![tactic(auto)]
+
 ghost use Rattle.std.specs.Prelude.{cond, ◌≡◌, ◌+◌, ◌*◌, ◌≤◌, ◌<◌, ◌^◌, eqb, length};
 ghost use Rattle.slices.specs.Bytes.{over};
 ghost use Rattle.condition.specs.Walk.{Passed};

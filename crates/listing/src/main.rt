@@ -1,4 +1,6 @@
 // Prints the sheet of the condition code on standard input, which is raw bytes: a line feed at the end is part of the code.
+#![tactic(auto)]
+
 ghost use Rattle.std.specs.Prelude.{◌≡◌, ◌<◌, length};
 ghost use Rattle.semantics.specs.Code.{max_code};
 ghost use Rattle.sheet.specs.Sheet.{sheet};

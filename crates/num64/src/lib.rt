@@ -1,4 +1,6 @@
 // 64-bit arithmetic: each contract is an equation with a definition of specs/ over whole numbers.
+#![tactic(auto)]
+
 ghost use Rattle.std.specs.Prelude.{◌≡◌, ◌+◌, ◌*◌, ◌^◌, ◌<◌, false, pos, neg_ℤ, ◌≤ℤ◌, ◌<ℤ◌, unsigned_abs};
 ghost use Rattle.num64.specs.Exact.{number, sign_of, unsigned};
 ghost use Rattle.num64.specs.Exact.{checked_add, checked_sub, checked_mul, checked_neg, checked_div, checked_rem, fitted};

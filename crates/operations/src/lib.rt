@@ -1,4 +1,6 @@
 // What the commands compute: operations on numbers and on indexes.
+#![tactic(auto)]
+
 ghost use Rattle.std.specs.Prelude.{◌≡◌};
 ghost use Rattle.index64.specs.Steps.{stepped};
 ghost use Rattle.semantics.specs.Operations.{bin_row, cmp_row, idx_row, or_refused, un_row};

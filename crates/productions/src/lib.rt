@@ -1,4 +1,6 @@
 // What the tokens before a place end with: a row, told by the kinds of one or two tokens, and then compared kind by kind with its command's own tokens.
+#![tactic(auto)]
+
 ghost use Rattle.std.specs.Prelude.{◌≡◌, List, [], ◌∷◌, ℕ, ◌-◌, ◌≤◌, ◌<◌, length, get_or};
 ghost use Rattle.semantics.specs.Code.{max_tokens};
 ghost use Rattle.semantics.specs.Records.{records_of};

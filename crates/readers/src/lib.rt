@@ -1,6 +1,8 @@
 // `from_tokens` of the source: the readers call themselves on the tokens before what they have matched. The readers go by
 // the rows that are noted for the tokens before each place. What has several tokens of its own calls for its right operand; an operation of one token has its operands counted.
 // So the readers go at most a quarter as deep as there are tokens, whatever the tokens are.
+#![tactic(auto)]
+
 ghost use Rattle.std.specs.Prelude.{◌≡◌};
 ghost use Rattle.semantics.specs.FromTokens.{expr_from_tokens, from_tokens, idx_from_tokens};
 ghost use Rattle.semantics.specs.Records.{Records, token_at};

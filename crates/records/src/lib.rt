@@ -1,4 +1,6 @@
 // Token records as structs: their fields go into number slices, which the calls work on, and back.
+#![tactic(auto)]
+
 ghost use Rattle.std.specs.Prelude.{◌≡◌, ◌++◌, ◌≤◌, length, take, drop};
 ghost use Rattle.records.specs.Fields.{kinds_of, numbers_of, places_of, records_from};
 

@@ -1,4 +1,6 @@
 // Document 01's number and data of each refusal.
+#![tactic(auto)]
+
 ghost use Rattle.std.specs.Prelude.{◌≡◌};
 ghost use Rattle.word64.specs.Bits.{bits_of};
 ghost use Rattle.semantics.specs.Refusals.{refusal, numbered};

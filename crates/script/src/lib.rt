@@ -1,4 +1,6 @@
 // The bytes of a script: what each operation writes, as `push_to_builder` of the source has it, script numbers, and pushes.
+#![tactic(auto)]
+
 pub mod opcodes;
 
 ghost use Rattle.std.specs.Prelude.{◌≡◌, [], ◌∷◌, ◌+◌, ◌≤◌, length, take, drop};

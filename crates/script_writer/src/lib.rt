@@ -1,6 +1,8 @@
 // Write Script: condition code to the bytes of its script, without tokens between them. One pass over the commands marks those after which a ScriptNumToLe64 stands, where there
 // are lookups, and one writes; where the buffer may be too short, one between them counts.
 // `Command::Unknown` is not met: Check has turned down code that has it.
+#![tactic(auto)]
+
 ghost use Rattle.std.specs.Prelude.{◌≡◌, ◌+◌, ◌*◌, ◌≤◌, leb, length, take, drop};
 ghost use Rattle.slices.specs.Bytes.{Front, bytes_value};
 ghost use Rattle.semantics.specs.declared.Checked.{Checked};

@@ -1,4 +1,5 @@
 // The definitions that every contract cites stand in specs/. Here are the bounds, and the types that definitions and code share.
+#![tactic(auto)]
 
 // The most tokens that a condition's token form may have.
 pub const MAX_TOKENS: usize = 1024;

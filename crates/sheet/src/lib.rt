@@ -1,4 +1,6 @@
 // The sheet of condition code: a line of 29 characters and a line feed for each command, or one for a refusal.
+#![tactic(auto)]
+
 ghost use Rattle.std.specs.Prelude.{◌≡◌, [], ◌∷◌, ◌++◌, ◌+◌, ◌*◌, ◌≤◌, length, replicate};
 ghost use Rattle.slices.specs.Bytes.{over};
 ghost use Rattle.decimals.specs.Decimal.{Ending, decimal};

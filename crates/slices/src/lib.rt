@@ -1,4 +1,6 @@
 // Bytes in lent slices: numbers of eight bytes, and copies.
+#![tactic(auto)]
+
 ghost use Rattle.std.specs.Prelude.{◌≡◌, ◌++◌, ◌+◌, ◌≤◌, ◌<◌, length, take, drop};
 ghost use Rattle.std.proofs.Math.Seq.{paste};
 ghost use Rattle.slices.specs.Bytes.{Read64, little_endian};

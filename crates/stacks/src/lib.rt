@@ -1,4 +1,6 @@
 // The operands that wait, in two arrays: what the commands do with them.
+#![tactic(auto)]
+
 ghost use Rattle.std.specs.Prelude.{◌≡◌, List, ◌∷◌, ◌+◌, ◌-◌, ◌≤◌, ◌<◌, ℤ, length, take, drop};
 ghost use Rattle.index64.specs.Steps.{stepped};
 ghost use Rattle.semantics.specs.Operations.{bin_row, cmp_row, idx_row, un_row};

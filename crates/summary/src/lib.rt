@@ -1,4 +1,6 @@
 // What one pass over the commands of condition code keeps, and what one command more makes of it.
+#![tactic(auto)]
+
 ghost use Rattle.std.specs.Prelude.{[], ◌∷◌, ◌≡◌, ◌≤◌};
 ghost use Rattle.semantics.specs.declared.AmountList.{AmountList};
 ghost use Rattle.semantics.specs.declared.Terminal.{Terminal};

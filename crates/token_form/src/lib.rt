@@ -1,5 +1,7 @@
 // The records of a condition's tokens, command by command: each command is lent the rest of the three columns.
 // `Command::Unknown` is not met: Check has turned down code that has it, and `write_command` asks for a known command.
+#![tactic(auto)]
+
 ghost use Rattle.std.specs.Prelude.{true, ◌≡◌, [], ◌∷◌, map, ◌+◌, ◌≤◌, ◌<◌, ◌^◌, length, take};
 ghost use Rattle.slices.specs.Bytes.{over};
 ghost use Rattle.semantics.specs.Code.{command_of, command_row, known};

@@ -1,5 +1,7 @@
 // The tokens of each command: the one table that Write goes by, and that Decode reads backwards.
 // `Command::Unknown` stands in it for completeness: Check has turned down code that has it, and Decode compares no tokens with it.
+#![tactic(auto)]
+
 ghost use Rattle.std.specs.Prelude.{◌≡◌};
 ghost use Rattle.semantics.specs.declared.Command.{Command};
 ghost use Rattle.token_table.specs.TokenRows.{token_row};

@@ -1,5 +1,7 @@
 // Replays the cases of data/cases: makes each call at the unit's boundary, and compares every number, datum, count and byte with the known answer. It stops at
 // the first case that differs.
+#![tactic(auto)]
+
 ghost use Rattle.vectors.specs.Agreement.{Replayed};
 
 use cases::{between, number};

@@ -1,4 +1,6 @@
 // The witness: whether its ends are sound, and an oracle terminal, which pops price, time and signature and lists a check.
+#![tactic(auto)]
+
 ghost use Rattle.std.specs.Prelude.{true, ◌≡◌, List, ◌++◌, ℕ, ◌+◌, ◌-◌, ◌*◌, ◌≤◌, ◌<◌, length, take, drop};
 ghost use Rattle.semantics.specs.Evaluate.{ends_sound};
 ghost use Rattle.semantics.specs.Evaluation.{after_signature, check_bytes, check_size, in_future, oracle};

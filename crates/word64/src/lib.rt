@@ -1,4 +1,6 @@
 // 64-bit words: two's complement, operations on bits, comparisons. Each contract is an equation with a definition of specs/.
+#![tactic(auto)]
+
 ghost use Rattle.std.specs.Prelude.{◌≡◌};
 ghost use Rattle.std.specs.Int.Signed.{lt_z, le_z};
 ghost use Rattle.word64.specs.Bits.{signed_of, bits_of, and_of, or_of, xor_of, invert_of, eq_z};

@@ -1,5 +1,7 @@
 // Write: condition code to token records. One pass over the commands marks those after which a ScriptNumToLe64 stands, where there are lookups, a second one finds
 // the keys, where there are oracle terminals, and a third one writes the records.
+#![tactic(auto)]
+
 ghost use Rattle.std.specs.Prelude.{◌&&◌, ◌≡◌, leb, length};
 ghost use Rattle.semantics.specs.declared.Checked.{Checked};
 ghost use Rattle.semantics.specs.Check.{checked};
