@@ -8,7 +8,7 @@ use semantics::{Checked, Decoded, ScriptWritten, Verdict, Written};
 
 // `covenant_checked`
 #[repr(C)]
-#[derive(Drop)]
+#[derive(Clone, Copy)]
 pub struct CheckAnswer {
     pub number: u32,
     pub place: u64,
@@ -16,7 +16,7 @@ pub struct CheckAnswer {
 
 // `covenant_evaluated`
 #[repr(C)]
-#[derive(Drop)]
+#[derive(Clone, Copy)]
 pub struct EvaluateAnswer {
     pub number: u32,
     pub verdict: u32,
@@ -28,7 +28,7 @@ pub struct EvaluateAnswer {
 
 // `covenant_written`
 #[repr(C)]
-#[derive(Drop)]
+#[derive(Clone, Copy)]
 pub struct WriteAnswer {
     pub number: u32,
     pub place: u64,
@@ -38,7 +38,7 @@ pub struct WriteAnswer {
 
 // `covenant_script_written`
 #[repr(C)]
-#[derive(Drop)]
+#[derive(Clone, Copy)]
 pub struct ScriptAnswer {
     pub number: u32,
     pub place: u64,
@@ -47,7 +47,7 @@ pub struct ScriptAnswer {
 
 // `covenant_decoded`
 #[repr(C)]
-#[derive(Drop)]
+#[derive(Clone, Copy)]
 pub struct DecodeAnswer {
     pub number: u32,
     pub place: u64,

@@ -180,7 +180,7 @@ pub fn byte_of(command: Command) -> u8
 }
 
 // A command, the place of its operand bytes, and the place of the command after it.
-#[derive(Drop)]
+#[derive(Clone, Copy)]
 pub struct Cursor {
     pub command: Command,
     pub operands: usize,

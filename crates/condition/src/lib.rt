@@ -10,7 +10,7 @@ use semantics::{Checked, MAX_CODE, MAX_TOKENS, Refusal};
 use summary::{Rule, Stepped, Summary};
 
 // Where code stops being well formed, or what is known of well-formed code.
-#[derive(Drop)]
+#[derive(Clone, Copy)]
 pub enum Walked {
     Refused(usize),
     Ended(Summary),
@@ -53,7 +53,7 @@ fn walk(code: &[u8]) -> Walked
 }
 
 // Why a condition is refused, or what is known of it.
-#[derive(Drop)]
+#[derive(Clone, Copy)]
 pub enum Examined {
     Passed(Summary),
     Refused(Refusal),

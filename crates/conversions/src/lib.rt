@@ -53,7 +53,7 @@ fn operate(
 }
 
 // After a command: where the next one stands, and how many index operands wait; or refusal 6 falls on it.
-#[derive(Drop)]
+#[derive(Clone, Copy)]
 pub enum Turn {
     On(usize, usize),
     TooLarge,

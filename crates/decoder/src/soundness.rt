@@ -15,7 +15,7 @@ const KEY_BYTES: usize = 32;
 const MOST_KIND: u8 = 35;
 
 // The first unsound record, if there is one.
-#[derive(Drop)]
+#[derive(Clone, Copy)]
 pub enum Scanned {
     Unsound(usize),
     Sound,

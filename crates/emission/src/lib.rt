@@ -34,14 +34,14 @@ const TIME: usize = 2;
 const KEY: usize = 7;
 
 // A command, `Command::Unknown` where there is none, and the place of its first token.
-#[derive(Drop)]
+#[derive(Clone, Copy)]
 pub struct CommandAt {
     pub command: Command,
     pub first: usize,
 }
 
 // The length of the code that keeps the oracle rule, or the refusal of the code that breaks it.
-#[derive(Drop)]
+#[derive(Clone, Copy)]
 pub enum Judged {
     Kept(usize),
     Broken(Refusal),

@@ -21,7 +21,7 @@ use witness::Witness;
 const ORACLE_BYTES: usize = 40;
 
 // Where the evaluation goes on: a place in the code, and how many values and indexes wait.
-#[derive(Drop)]
+#[derive(Clone, Copy)]
 struct Spot {
     pub at: usize,
     pub values: usize,
@@ -29,7 +29,7 @@ struct Spot {
 }
 
 // What is next: a command; an oracle terminal, whose key and time stand at the place; or nothing.
-#[derive(Drop)]
+#[derive(Clone, Copy)]
 enum Next {
     Command(Spot),
     Oracle(Spot),
@@ -37,7 +37,7 @@ enum Next {
 }
 
 // After an oracle terminal: a command, or nothing.
-#[derive(Drop)]
+#[derive(Clone, Copy)]
 enum Step {
     On(Spot),
     Ended(Verdict),

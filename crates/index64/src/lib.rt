@@ -13,7 +13,7 @@ const LEAST: i64 = -0x7fff_ffff;
 const MOST: i64 = 0x7fff_ffff;
 
 // An index, or Overflow where a value is none, or a divisor is 0.
-#[derive(Drop)]
+#[derive(Clone, Copy)]
 pub enum Step {
     Value(i64),
     Overflow,

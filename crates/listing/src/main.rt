@@ -14,7 +14,7 @@ use sheet::MAX_SHEET;
 const ROOM: usize = MAX_CODE + 1;
 
 // How many bytes were read, or that a read failed.
-#[derive(Drop)]
+#[derive(Clone, Copy)]
 enum Input {
     Bytes(usize),
     Failed,

@@ -16,21 +16,21 @@ const HALF: u64 = 0x8000_0000_0000_0000;
 const LEAST: i64 = -0x8000_0000_0000_0000;
 
 // A signed result, or Overflow where 64 bits hold none.
-#[derive(Drop)]
+#[derive(Clone, Copy)]
 pub enum Signed64 {
     Value(i64),
     Overflow,
 }
 
 // A whole number: n, or -(n + 1).
-#[derive(Drop)]
+#[derive(Clone, Copy)]
 enum Whole {
     Pos(u64),
     NegSuc(u64),
 }
 
 // An unsigned result, or Overflow where 64 bits hold none.
-#[derive(Drop)]
+#[derive(Clone, Copy)]
 enum Unsigned64 {
     Value(u64),
     Overflow,
@@ -185,7 +185,7 @@ fn has_no_quotient(a: i64, b: i64) -> bool
     }
 }
 
-#[derive(Drop)]
+#[derive(Clone, Copy)]
 struct Division {
     quotient: i64,
     remainder: i64,

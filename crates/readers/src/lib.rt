@@ -17,7 +17,7 @@ use productions::{
 use semantics::MAX_TOKENS;
 
 // Where what was read begins. A reader's answer lies in its caller's frame: 32 bits keep that small.
-#[derive(Drop)]
+#[derive(Clone, Copy)]
 pub enum Reading {
     Read(u32),
     Nothing,

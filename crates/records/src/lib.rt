@@ -6,7 +6,7 @@ ghost use Rattle.records.specs.Fields.{kinds_of, numbers_of, places_of, records_
 
 // A token: its kind, the number that it carries, and where its key stands in the key bytes.
 #[repr(C)]
-#[derive(Drop)]
+#[derive(Clone, Copy)]
 pub struct TokenRecord {
     pub kind: u8,
     pub number: u64,

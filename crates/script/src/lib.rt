@@ -16,7 +16,7 @@ use semantics::{AmountList, BinOp, CmpOp, IdxOp, MAX_TOKENS, UnOp};
 pub const MAX_SCRIPT: usize = 5 * MAX_TOKENS;
 
 // A few bytes: how many, and the bytes; what stands after them is not written.
-#[derive(Drop)]
+#[derive(Clone, Copy)]
 pub struct ScriptRow {
     pub count: usize,
     pub bytes: [u8; 7],

@@ -26,7 +26,7 @@ use semantics::{Command, MAX_TOKENS, Refusal, ScriptWritten};
 // ---- one command
 
 // What a command writes: a row of bytes, its constant, or an oracle terminal's opcodes with its time and key.
-#[derive(Drop)]
+#[derive(Clone, Copy)]
 enum Shape {
     Row,
     Constant,
@@ -35,7 +35,7 @@ enum Shape {
 }
 
 // The shape, and the row, which is empty where it is not asked for.
-#[derive(Drop)]
+#[derive(Clone, Copy)]
 struct Piece {
     shape: Shape,
     row: ScriptRow,
@@ -144,7 +144,7 @@ fn push_piece(piece: Piece, code: &[u8], at: usize, out: &mut [u8]) -> usize
 // ---- all commands
 
 // How many bytes a command takes in the script, and where the next one stands.
-#[derive(Drop)]
+#[derive(Clone, Copy)]
 struct Next {
     bytes: usize,
     next: usize,

@@ -10,7 +10,7 @@ pub const MAX_CODE: usize = 9 * MAX_TOKENS;
 // ---- operations, by the names of the source
 
 // `IdxExpr`'s operations.
-#[derive(Drop)]
+#[derive(Clone, Copy)]
 pub enum IdxOp {
     Add,
     Sub,
@@ -19,7 +19,7 @@ pub enum IdxOp {
 }
 
 // The four amount lists that a value is looked up in.
-#[derive(Drop)]
+#[derive(Clone, Copy)]
 pub enum AmountList {
     Input,
     Output,
@@ -28,7 +28,7 @@ pub enum AmountList {
 }
 
 // `ExprInner`'s operations on two values.
-#[derive(Drop)]
+#[derive(Clone, Copy)]
 pub enum BinOp {
     Add,
     Sub,
@@ -41,14 +41,14 @@ pub enum BinOp {
 }
 
 // `ExprInner`'s operations on one value.
-#[derive(Drop)]
+#[derive(Clone, Copy)]
 pub enum UnOp {
     Invert,
     Negate,
 }
 
 // `ArithInner`'s comparisons.
-#[derive(Drop)]
+#[derive(Clone, Copy)]
 pub enum CmpOp {
     Eq,
     Lt,
@@ -58,7 +58,7 @@ pub enum CmpOp {
 }
 
 // What a command byte of condition code stands for.
-#[derive(Drop)]
+#[derive(Clone, Copy)]
 pub enum Command {
     Unknown,
     IdxConst,
@@ -75,7 +75,7 @@ pub enum Command {
 }
 
 // What a terminal is to the oracle rule.
-#[derive(Drop)]
+#[derive(Clone, Copy)]
 pub enum Terminal {
     PriceOracle1,
     PriceOracle1W,
@@ -85,7 +85,7 @@ pub enum Terminal {
 // ---- what the calls give back
 
 // Why a call refuses; 4, 5 and 20 to 40 by the names of the source. The numbers are in specs/Refusals.antt.
-#[derive(Drop)]
+#[derive(Clone, Copy)]
 pub enum Refusal {
     CodeTooLong,
     NotWellFormed(usize),
@@ -125,7 +125,7 @@ pub enum Refusal {
 }
 
 // A refusal's number in document 01, with its data: 0 where none is named, and a signed operand as its 64 bits.
-#[derive(Drop)]
+#[derive(Clone, Copy)]
 pub struct Numbered {
     pub number: u32,
     pub first: u64,
@@ -133,48 +133,48 @@ pub struct Numbered {
 }
 
 // A value, or why there is none.
-#[derive(Drop)]
+#[derive(Clone, Copy)]
 pub enum Value {
     Number(i64),
     Refused(Refusal),
 }
 
 // The tokens and oracle terminals of a condition that 1 to 5 let pass.
-#[derive(Drop)]
+#[derive(Clone, Copy)]
 pub enum Checked {
     Passed { tokens: usize, oracles: usize },
     Refused(Refusal),
 }
 
-#[derive(Drop)]
+#[derive(Clone, Copy)]
 pub enum Verdict {
     Is(bool),
     Refused(Refusal),
 }
 
 // The verdict, the number of checks written, and of witness elements left.
-#[derive(Drop)]
+#[derive(Clone, Copy)]
 pub struct Evaluated {
     pub verdict: Verdict,
     pub checks: usize,
     pub left: usize,
 }
 
-#[derive(Drop)]
+#[derive(Clone, Copy)]
 pub enum Written {
     Records { records: usize, key_bytes: usize },
     Refused(Refusal),
 }
 
 // The number of bytes of the script.
-#[derive(Drop)]
+#[derive(Clone, Copy)]
 pub enum ScriptWritten {
     Script(usize),
     Refused(Refusal),
 }
 
 // The length of the code, and the start of the tail that is its token form.
-#[derive(Drop)]
+#[derive(Clone, Copy)]
 pub enum Decoded {
     Code { bytes: usize, start: usize },
     Refused(Refusal),

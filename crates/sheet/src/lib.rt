@@ -21,7 +21,7 @@ const LINE: usize = 30;
 pub const MAX_SHEET: usize = LINE * MAX_TOKENS;
 
 // What stands in a column: nothing, a number, or a signed number by its 64 bits.
-#[derive(Drop)]
+#[derive(Clone, Copy)]
 enum Field {
     Blank,
     Unsigned(u64),

@@ -12,7 +12,7 @@ use index64::Step;
 use semantics::{AmountList, BinOp, CmpOp, Command, IdxOp, Refusal, UnOp, Value, Verdict};
 
 // What a command leads to: so many values and indexes that wait, or the end of the evaluation.
-#[derive(Drop)]
+#[derive(Clone, Copy)]
 pub enum Turn {
     On(usize, usize),
     Ended(Verdict),
@@ -20,7 +20,7 @@ pub enum Turn {
 
 // What a command does: all of it with the operands that wait, or a value from elsewhere is still to be pushed.
 // That is the amount of a list where an index step led, with so many indexes left, or the price of an oracle terminal.
-#[derive(Drop)]
+#[derive(Clone, Copy)]
 pub enum Effect {
     Turned(Turn),
     Amount(AmountList, Step, usize),

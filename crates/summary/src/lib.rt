@@ -10,7 +10,7 @@ ghost use Rattle.summary.specs.Step.{Inside, counted, counting, larger, most_tok
 use semantics::Terminal;
 
 // What is known of the oracle rule after some terminals.
-#[derive(Drop)]
+#[derive(Clone, Copy)]
 pub enum Rule {
     Unseen,
     Kept,
@@ -21,7 +21,7 @@ pub enum Rule {
 // What one pass over the commands keeps: how many bytes they have, how many values, indexes and conditions wait, how many tokens, oracle terminals and
 // lookups there were, the oracle rule, and the greatest number of values and indexes that ever waited.
 // An enum field is copied to a local before it is used. Tokens are 32 bits wide, or the compiler would pair them with the bytes in a vector register.
-#[derive(Drop)]
+#[derive(Clone, Copy)]
 pub struct Summary {
     pub bytes: usize,
     pub values: usize,
@@ -35,7 +35,7 @@ pub struct Summary {
 }
 
 // A summary with one command more, which a comparison ends; or that the command's operand bytes are not all there or its need is not met.
-#[derive(Drop)]
+#[derive(Clone, Copy)]
 pub enum Stepped {
     Onward(Summary),
     Compared(Summary),

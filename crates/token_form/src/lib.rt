@@ -25,7 +25,7 @@ const BYTES8: u8 = 2;
 const BYTES32: u8 = 3;
 
 // The number of a command's Num, which is 1 but for an index constant, and of its Bytes8.
-#[derive(Drop)]
+#[derive(Clone, Copy)]
 struct Numbers {
     number: u64,
     bits: u64,
@@ -64,7 +64,7 @@ fn numbers_of(command: Command, code: &[u8], at: usize) -> Numbers
 }
 
 // The number and the place of a record.
-#[derive(Drop)]
+#[derive(Clone, Copy)]
 struct Fields {
     number: u64,
     place: u32,
@@ -198,7 +198,7 @@ fn write_one(kind: u8, number: u64, kinds: &mut [u8], numbers: &mut [u64], place
 }
 
 // How many records a byte's command took, and how many operand bytes it has.
-#[derive(Drop)]
+#[derive(Clone, Copy)]
 struct Next {
     records: usize,
     width: usize,

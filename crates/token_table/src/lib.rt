@@ -10,7 +10,7 @@ use semantics::{AmountList, BinOp, CmpOp, Command, IdxOp, UnOp};
 
 // The number of a command's own tokens, and their kinds. After these stands the 7 of ScriptNumToLe64, which is written only after the left operand of Mul or Div;
 // the rest is 0.
-#[derive(Drop)]
+#[derive(Clone, Copy)]
 pub struct TokenRow {
     pub count: usize,
     pub kinds: [u8; 14],

@@ -8,7 +8,7 @@ use cases::{between, number};
 use libc::STDOUT_FILENO;
 
 // What came of reading and replaying the next case.
-#[derive(Drop)]
+#[derive(Clone, Copy)]
 enum Outcome {
     Agrees(u8),
     Differs(u8),

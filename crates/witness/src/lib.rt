@@ -26,28 +26,28 @@ pub const CHECK_BYTES: usize = SIGNATURE_AT + SIGNATURE_BYTES;
 const PRICE_LIMIT: u64 = 0x8000_0000_0000_0000;
 
 // What an evaluation has of its witness: how many elements are left, and how many checks are listed. One record is lent to every oracle terminal, and popped in place.
-#[derive(Drop)]
+#[derive(Clone, Copy)]
 pub struct Witness {
     pub left: usize,
     pub checks: usize,
 }
 
 // Where an element that was popped starts and ends, if there was one.
-#[derive(Drop)]
+#[derive(Clone, Copy)]
 enum Element {
     Missing,
     Span(usize, usize),
 }
 
 // Where an element of the right width starts, or why there is none.
-#[derive(Drop)]
+#[derive(Clone, Copy)]
 enum Place {
     At(usize),
     Refused(Refusal),
 }
 
 // What an oracle terminal gives, with how many checks are listed.
-#[derive(Drop)]
+#[derive(Clone, Copy)]
 struct Judged {
     pub value: Value,
     pub checks: usize,
