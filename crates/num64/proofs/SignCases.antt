@@ -1,6 +1,6 @@
 -- Division towards zero, and Euclid's in one step from it. Where 30 and 31 don't fall, both fit in 64 bits.
 use Rattle.std.proofs.Common.{◌≡◌, ℕ, zero, suc, ◌+◌, ◌-◌, ◌*◌, ◌/◌, ◌%◌, ◌^◌, ◌<◌, ◌≤◌, Bool, true, false, not, T, eqb, ltb, ℤ, pos, negsuc, ◌+ℤ◌, ◌-ℤ◌, ◌*ℤ◌, neg_ℤ, nat_abs, ◌≤ℤ◌, ◌<ℤ◌, sym, refl, ap, ◌∙◌, subst, true≢false, suc-le-suc, zero-le, lt_of_le_of_lt, mod-lt, zero-lt-suc, mul-zero, div-le_self, arith, le→leb, ltb→lt, lt→ltb, to_z-of_z, w64, SFits, to_z, of_z, ltb-false, ltb-true, le-ltb, lt-ltb, ne_eqb, eqb-true}
-use mathlib.Core.Bool.{false≢true, and_false, or-false}
+use mathlib.Core.Bool.{false≢true, and-false, or-false}
 use native.Mathlib.Nat.{div-add-mod, div-lt_self}
 use borrow.Author.Tests.{eqb-false}
 use lib.IntN.{pred_ℤ, suc_ℤ, neg_ℤ-+ℤ, +ℤ_assoc, +ℤ_comm, *ℤ_comm, -ℤ_one, +ℤ_one, pred_ℤ-*ℤ, suc_ℤ-*ℤ, -ℤ-+ℤ_cancel, +ℤ-neg_ℤ_cancel}
@@ -95,7 +95,7 @@ by_positive a (pos n) h = by_pos a n ∙ ne_eqb n 0 (λ e. omega (arith, ltb→l
 by_positive a (negsuc n) h = absurd h.lt
 
 pub of_nonnegative : (a b : ℤ) → pos 0 ≤ℤ a → b <ℤ pos 0 → no_quotient a b ≡ false
-of_nonnegative (pos m) (negsuc n) h k = and_false (eqb n 0)
+of_nonnegative (pos m) (negsuc n) h k = and-false (eqb n 0)
 of_nonnegative (pos m) (pos n) h k = absurd (omega (arith, ltb→lt n 0 k.lt))
 of_nonnegative (negsuc m) b h k = absurd h.le
 
@@ -174,7 +174,7 @@ module _ {a b : ℤ} (g : Given a b) where
 pub no_quotient_lem : (a b : ℤ) → no_quotient a b ≡ true → Signed64.Overflow ≡ checked_div a b
 unfolding checked_div
 no_quotient_lem a (pos n) u = rw (sym (by_pos a n) ∙ u)
-no_quotient_lem (pos m) (negsuc n) u = absurd (false≢true (sym (and_false (eqb n 0)) ∙ u))
+no_quotient_lem (pos m) (negsuc n) u = absurd (false≢true (sym (and-false (eqb n 0)) ∙ u))
 no_quotient_lem (negsuc m) (negsuc zero) u = rw (eqb-true m (2 ^ 63 - 1) u)
 no_quotient_lem (negsuc m) (negsuc (suc n)) u = absurd (false≢true (rw (ne_eqb (suc n) 0 (λ e. omega arith)) at u))
 

@@ -7,32 +7,32 @@ use Rattle.semantics.specs.Evaluation.{amount}
 use Rattle.amounts.proofs.amount_at.Statement.{statement}
 use Rattle.amounts.proofs.amount_at.Tie as tie
 
-returns : tie.Need-returns
+returns : tie.Need-returns-then-numbers-k
 unfolding amount
-returns c = rw (le-ltb _ _ c.before.if1.true, c.outside.ensures)
+returns c = rw (le-ltb _ _ c.if-numbers-k.true, c.outside.ensures)
 
-returns-2 : tie.Need-returns-2
+returns-2 : tie.Need-returns-then-marks-k
 unfolding amount
 returns-2 c =
-    let a = c.before.before.before.before.before.args in
-    rw (lt-ltb _ _ c.before.before.if1.false, get_or-eq_default a.marks.now 0 c.before.if2.true, c.hidden.ensures)
+    let a = c.args in
+    rw (lt-ltb _ _ c.if-numbers-k.false, get_or-eq_default a.marks.now 0 c.if-marks-k.true, c.hidden.ensures)
 
-returns-3 : tie.Need-returns-3
+returns-3 : tie.Need-returns-then-marks-k-ne1
 unfolding amount
-returns-3 c = rw (lt-ltb _ _ c.before.before.before.before.if1.false, ne_eqb _ _ c.before.if3.true, c.hidden2.ensures)
+returns-3 c = rw (lt-ltb _ _ c.if-numbers-k.false, ne_eqb _ _ c.if-marks-k-ne1.true, c.hidden-then-marks-k-ne1.ensures)
 
-returns-4 : tie.Need-returns-4
+returns-4 : tie.Need-returns
 unfolding amount
 returns-4 c =
     rw (
-      lt-ltb _ _ c.before.before.before.before.before.if1.false,
-      eq-eqb _ _ c.before.before.if3.false,
-      to_z-of_z (sfits_of c.signed.type-inv),
+      lt-ltb _ _ c.if-numbers-k.false,
+      eq-eqb _ _ c.if-marks-k-ne1.false,
+      to_z-of_z (sfits_of c.signed.type_inv),
       c.signed.ensures,
     )
 
-pub amount-at-spec : {M : Type 1} → statement M
-amount-at-spec =
+pub amount_at_spec : {M : Type 1} → statement M
+amount_at_spec =
     tie.close
     (tie.spec
     (λ c κs. search rules)

@@ -11,38 +11,38 @@ use Rattle.semantics.specs.Evaluate.{are_marks}
 use Rattle.amounts.proofs.are_marks.Statement.{statement}
 use Rattle.amounts.proofs.are_marks.Tie as tie
 
-abbrev invariant-loop : tie.invariant-loop
-invariant-loop marks i₀ i = (i ≤ length marks) × (are_marks (drop i marks) ≡ are_marks marks)
+abbrev invariant-loop-i : tie.invariant-loop-i
+invariant-loop-i marks i₀ i = (i ≤ length marks) × (are_marks (drop i marks) ≡ are_marks marks)
 
-abbrev decreases-loop : tie.decreases-loop
-decreases-loop marks i₀ i = length marks - i
+abbrev decreases-loop-i : tie.decreases-loop-i
+decreases-loop-i marks i₀ i = length marks - i
 
-loop-holds : tie.Need-loop-init invariant-loop decreases-loop
+loop-holds : tie.Need-loop-i-init invariant-loop-i decreases-loop-i
 loop-holds c = (omega arith, refl)
 
-returns : tie.Need-returns invariant-loop decreases-loop
+returns : tie.Need-returns-then-marks-i-gt1 invariant-loop-i decreases-loop-i
 returns c =
     let l = c.before.before.before in
-    let m = l.before.args.marks.now in
-    rw (drop-cons m l.loop.i 0 c.before.before.loop-test.true, lt-leb _ _ c.if1.true) at l.loop.invariant.1
+    let m = l.args.marks.now in
+    rw (drop-cons m l.loop-i.i 0 c.loop-i-test.true, lt-leb _ _ c.if-marks-i-gt1.true) at l.loop-i.invariant.1
 
-loop-again : tie.Need-loop-preserved invariant-loop decreases-loop
+loop-again : tie.Need-loop-i-preserved invariant-loop-i decreases-loop-i
 loop-again c =
     let l = c.before.before.before in
-    let m = l.before.args.marks.now in
-    (omega arith, rw add-one (rw (drop-cons m l.loop.i 0 c.before.before.loop-test.true, le-leb _ _ c.if1.false) at l.loop.invariant.1))
+    let m = l.args.marks.now in
+    (omega arith, rw add-one (rw (drop-cons m l.loop-i.i 0 c.loop-i-test.true, le-leb _ _ c.if-marks-i-gt1.false) at l.loop-i.invariant.1))
 
-returns-2 : tie.Need-returns-2 invariant-loop decreases-loop
+returns-2 : tie.Need-returns invariant-loop-i decreases-loop-i
 returns-2 c =
     let l = c.before in
-    rw (drop_of_length-le l.before.args.marks.now c.loop-test.false) at l.loop.invariant.1
+    rw (drop_of_length-le l.args.marks.now c.loop-i-test.false) at l.loop-i.invariant.1
 
-pub are-marks-spec : {M : Type 1} → statement M
-are-marks-spec =
+pub are_marks_spec : {M : Type 1} → statement M
+are_marks_spec =
     tie.close
     (tie.spec
-    invariant-loop
-    decreases-loop
+    invariant-loop-i
+    decreases-loop-i
     loop-holds
     (λ c. search rules)
     returns

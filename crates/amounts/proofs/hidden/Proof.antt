@@ -3,15 +3,15 @@ use borrow.Author.Rules.{rules}
 use Rattle.amounts.proofs.hidden.Statement.{statement}
 use Rattle.amounts.proofs.hidden.Tie as tie
 
-pub hidden-spec : {M : Type 1} → statement M
-hidden-spec =
+pub hidden_spec : {M : Type 1} → statement M
+hidden_spec =
     tie.close
     (tie.spec
     (λ c. search rules)
     (λ c. search rules)
     (λ c. search rules)
     (λ c. search rules)
-    (λ c. rw c.enum_told.given.1)
-    (λ c. rw c.enum-told2.given.1)
-    (λ c. rw c.enum-told3.given.1)
-    (λ c. rw c.enum-told4.given.1))
+    (λ c. rw c.in-Input.is)
+    (λ c. rw c.in-Output.is)
+    (λ c. rw c.in-InputIssue.is)
+    (λ c. rw c.in-InputReIssue.is))

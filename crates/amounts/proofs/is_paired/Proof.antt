@@ -4,10 +4,10 @@ use borrow.Author.Tests.{eq-eqb, ne_eqb}
 use Rattle.amounts.proofs.is_paired.Statement.{statement}
 use Rattle.amounts.proofs.is_paired.Tie as tie
 
-pub is-paired-spec : {M : Type 1} → statement M
-is-paired-spec =
+pub is_paired_spec : {M : Type 1} → statement M
+is_paired_spec =
     tie.close
     (tie.spec
-    (λ c. rw (ne_eqb _ _ c.if1.true))
+    (λ c. rw (ne_eqb _ _ c.if-numbers-marks.true))
     (λ c κs. search rules)
-    (λ c. rw (eq-eqb _ _ c.before.if1.false) c.are-marks.ensures))
+    (λ c. rw (eq-eqb _ _ c.if-numbers-marks.false) c.are_marks.ensures))

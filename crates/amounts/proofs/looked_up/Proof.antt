@@ -14,29 +14,29 @@ use Rattle.amounts.proofs.looked_up.Statement.{statement}
 use Rattle.amounts.proofs.looked_up.Tie as tie
 
 -- the index, as a test and a callee are given it
-abbrev word : tie.After-known-told → ℤ
-word c = to_z w64 (of_z w64 c.before.step.given.0.0)
+abbrev word : tie.In-Value → ℤ
+word c = to_z w64 (of_z w64 c.in-Value.index)
 
-held : (c : tie.After-known-told) → word c ≡ c.before.step.given.0.0
-held c = to_z-of_z {w = w64} {z = c.before.step.given.0.0} (sfits_of c.known-told.given.0.1)
+held : (c : tie.In-Value) → word c ≡ c.in-Value.index
+held c = to_z-of_z {w = w64} {z = c.in-Value.index} (sfits_of c.in-Value.known_told-1-own.given.0.1)
 
-returns-2 : tie.Need-returns-2
-returns-2 c current = rw c.before.before.step.given.1 (negative c.before.before.step.given.0.0 (rw (held c.before) at c.if1.true) _ _)
+returns-2 : tie.Need-returns-then-index-lt0
+returns-2 c current = rw c.in-Value.is (negative c.in-Value.index (rw (held c.before) at c.if-index-lt0.true) _ _)
 
 -- where the lists are asked
-asked : (c : tie.After-bits)
-    → stepped c.before.before.before.before.before.before.before.before.before.before.before.before.before.args.step ≡ some (pos c.bits.result)
+asked : (c : tie.After-bits-i)
+    → stepped c.args.step ≡ some (pos c.bits-i.result)
 asked c =
     let k = c.before.before in
-    rw (k.before.step.given.1, c.bits.ensures) (ap some (sym (held k) ∙ not_negative (word k) c.before.if1.false))
+    rw (k.in-Value.is, c.bits-i.ensures) (ap some (sym (held k) ∙ not_negative (word k) c.if-index-lt0.false))
 
-pub looked-up-spec : {M : Type 1} → statement M
-looked-up-spec =
+pub looked_up_spec : {M : Type 1} → statement M
+looked_up_spec =
     tie.close
     (tie.spec
     (λ c. search rules)
     (λ c. search rules)
-    (λ c current. rw c.enum_told.given.1)
+    (λ c current. rw c.in_default.is)
     returns-2
     (λ c κs. search rules)
     (λ c. search rules)
@@ -47,7 +47,7 @@ looked-up-spec =
     (λ c κs. search rules)
     (λ c. search rules)
     (λ c κs. search rules)
-    (λ c current. rw (asked c.before.before.before, c.before.enum-told2.given.1) (rw c.before.enum-told2.given.1 at c.amount-at.ensures))
-    (λ c current. rw (asked c.before.before.before, c.before.enum-told3.given.1) (rw c.before.enum-told3.given.1 at c.amount-at2.ensures))
-    (λ c current. rw (asked c.before.before.before, c.before.enum-told4.given.1) (rw c.before.enum-told4.given.1 at c.amount-at3.ensures))
-    (λ c current. rw (asked c.before.before.before, c.before.enum-told5.given.1) (rw c.before.enum-told5.given.1 at c.amount-at4.ensures)))
+    (λ c current. rw (asked c.before.before, c.in-Input.is) (rw c.in-Input.is at c.amount_at.ensures))
+    (λ c current. rw (asked c.before.before, c.in-Output.is) (rw c.in-Output.is at c.amount_at-in-Output.ensures))
+    (λ c current. rw (asked c.before.before, c.in-InputIssue.is) (rw c.in-InputIssue.is at c.amount_at-in-InputIssue.ensures))
+    (λ c current. rw (asked c.before.before, c.in-InputReIssue.is) (rw c.in-InputReIssue.is at c.amount_at-in-InputReIssue.ensures)))

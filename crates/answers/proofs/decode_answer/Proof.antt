@@ -3,12 +3,12 @@ use borrow.Author.Rules.{rules}
 use Rattle.answers.proofs.decode_answer.Statement.{statement}
 use Rattle.answers.proofs.decode_answer.Tie as tie
 
-pub decode-answer-spec : {M : Type 1} → statement M
-decode-answer-spec =
+pub decode_answer_spec : {M : Type 1} → statement M
+decode_answer_spec =
     tie.close
     (tie.spec
     (λ c. search rules)
     (λ c. search rules)
     (λ c κs. search rules)
-    (λ c. rw c.before.answer.given.1)
-    (λ c. rw (c.number_of_lem.ensures, c.before.before.answer2.given.1)))
+    (λ c. rw c.in-Code.is)
+    (λ c. rw (c.number_of_lem.ensures, c.in-Refused.is)))

@@ -10,13 +10,13 @@ byte : (b : Bool) → bool_byte b ≡ cond b 1 0
 byte true = refl
 byte false = refl
 
-pub verdict-answer-spec : {M : Type 1} → statement M
-verdict-answer-spec =
+pub verdict_answer_spec : {M : Type 1} → statement M
+verdict_answer_spec =
     tie.close
     (tie.spec
     (λ c. search rules)
     (λ c. search rules)
     (λ c. search rules)
     (λ c κs. search rules)
-    (λ c. rw (c.before.verdict.given.1, byte c.before.verdict.given.0.0))
-    (λ c. rw (c.number_of_lem.ensures, c.before.before.verdict2.given.1)))
+    (λ c. rw (c.in-Is.is, byte c.in-Is.holds))
+    (λ c. rw (c.number_of_lem.ensures, c.in-Refused.is)))

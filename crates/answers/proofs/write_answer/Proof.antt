@@ -3,12 +3,12 @@ use borrow.Author.Rules.{rules}
 use Rattle.answers.proofs.write_answer.Statement.{statement}
 use Rattle.answers.proofs.write_answer.Tie as tie
 
-pub write-answer-spec : {M : Type 1} → statement M
-write-answer-spec =
+pub write_answer_spec : {M : Type 1} → statement M
+write_answer_spec =
     tie.close
     (tie.spec
     (λ c. search rules)
     (λ c. search rules)
     (λ c κs. search rules)
-    (λ c. rw c.before.answer.given.1)
-    (λ c. rw (c.number_of_lem.ensures, c.before.before.answer2.given.1)))
+    (λ c. rw c.in-Records.is)
+    (λ c. rw (c.number_of_lem.ensures, c.in-Refused.is)))

@@ -9,38 +9,38 @@ use Rattle.cases.proofs.Comparing.{begins_other, begins_past, begins_same}
 use Rattle.cases.proofs.begins_with.Statement.{statement}
 use Rattle.cases.proofs.begins_with.Tie as tie
 
-abbrev invariant-loop : tie.invariant-loop
-invariant-loop part numbers i₀ i = begins part numbers ≡ begins (drop (8 * i) part) (drop i numbers)
+abbrev invariant-loop-i : tie.invariant-loop-i
+invariant-loop-i part numbers i₀ i = begins part numbers ≡ begins (drop (8 * i) part) (drop i numbers)
 
-abbrev decreases-loop : tie.decreases-loop
-decreases-loop part numbers i₀ i = length numbers - i
+abbrev decreases-loop-i : tie.decreases-loop-i
+decreases-loop-i part numbers i₀ i = length numbers - i
 
-returns : tie.Need-returns invariant-loop decreases-loop
+returns : tie.Need-returns-then-numbers-i invariant-loop-i decreases-loop-i
 returns c =
     let l = c.before.before.before.before in
-    let a = l.before.before.before.args in
-    let t : l.loop.i < length a.numbers.now = omega arith in
-    sym (l.loop.invariant ∙ begins_other a.part.now a.numbers.now l.loop.i t (λ e. c.if1.true (e ∙ sym c.before.word.ensures)))
+    let a = l.args in
+    let t : l.loop-i.i < length a.numbers.now = omega arith in
+    sym (l.loop-i.invariant ∙ begins_other a.part.now a.numbers.now l.loop-i.i t (λ e. c.if-numbers-i.true (e ∙ sym c.word.ensures)))
 
-loop-again : tie.Need-loop-preserved invariant-loop decreases-loop
+loop-again : tie.Need-loop-i-preserved invariant-loop-i decreases-loop-i
 loop-again c =
     let l = c.before.before.before.before in
-    let a = l.before.before.before.args in
-    let t : l.loop.i < length a.numbers.now = omega arith in
-    l.loop.invariant ∙ begins_same a.part.now a.numbers.now l.loop.i t (c.if1.false ∙ c.before.word.ensures)
+    let a = l.args in
+    let t : l.loop-i.i < length a.numbers.now = omega arith in
+    l.loop-i.invariant ∙ begins_same a.part.now a.numbers.now l.loop-i.i t (c.if-numbers-i.false ∙ c.word.ensures)
 
-returns-2 : tie.Need-returns-2 invariant-loop decreases-loop
+returns-2 : tie.Need-returns invariant-loop-i decreases-loop-i
 returns-2 c =
     let l = c.before in
-    let a = l.before.before.before.args in
-    sym (l.loop.invariant ∙ begins_past a.part.now a.numbers.now l.loop.i (omega arith))
+    let a = l.args in
+    sym (l.loop-i.invariant ∙ begins_past a.part.now a.numbers.now l.loop-i.i (omega arith))
 
-pub begins-with-spec : {M : Type 1} → statement M
-begins-with-spec =
+pub begins_with_spec : {M : Type 1} → statement M
+begins_with_spec =
     tie.close
     (tie.spec
-    invariant-loop
-    decreases-loop
+    invariant-loop-i
+    decreases-loop-i
     (λ c. refl)
     (λ c. search rules)
     (λ c. search rules)

@@ -9,19 +9,19 @@ use Rattle.cases.proofs.Reading.{number_past}
 use Rattle.cases.proofs.end.Statement.{statement}
 use Rattle.cases.proofs.end.Tie as tie
 
-returns : tie.Need-returns
+returns : tie.Need-returns-then-k-body
 unfolding end_of
 returns c = c.number.ensures
 
-returns-2 : tie.Need-returns-2
+returns-2 : tie.Need-returns
 unfolding end_of
 returns-2 c =
-    let a = c.before.before.args in
+    let a = c.args in
     let h : length a.body.now < 2 + 4 * a.k + 4 = omega arith in
     sym (number_past 4 a.body.now (2 + 4 * a.k) h)
 
-pub end-spec : {M : Type 1} → statement M
-end-spec =
+pub end_spec : {M : Type 1} → statement M
+end_spec =
     tie.close
     (tie.spec
     (λ c. search rules)

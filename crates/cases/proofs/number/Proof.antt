@@ -8,31 +8,31 @@ use Rattle.cases.proofs.Reading.{number_past, number-there, value_four}
 use Rattle.cases.proofs.number.Statement.{statement}
 use Rattle.cases.proofs.number.Tie as tie
 
-returns : tie.Need-returns
+returns : tie.Need-returns-then-s-at-ge4
 returns c =
-    let a = c.before.before.before.before.before.before.before.before.before.before.before.args in
+    let a = c.args in
     let h : a.at + 4 ≤ length a.s.now = omega arith in
     rw (
-      c.before.before.before.before.before.before.wide.ensures.0,
-      c.before.before.before.before.wide2.ensures.0,
-      c.before.before.wide3.ensures.0,
-      c.wide4.ensures.0,
+      c.wide.ensures.0,
+      c.wide-then-s-at-ge4.ensures.0,
+      c.wide-then-s-at-ge4-2.ensures.0,
+      c.wide-then-s-at-ge4-3.ensures.0,
     ) (sym (number-there 4 a.s.now a.at h ∙ value_four a.s.now a.at h))
 
-returns-2 : tie.Need-returns-2
+returns-2 : tie.Need-returns-else-s-at-ge4
 returns-2 c =
-    let a = c.before.before.before.args in
+    let a = c.args in
     let h : length a.s.now < a.at + 4 = omega arith in
     sym (number_past 4 a.s.now a.at h)
 
-returns-3 : tie.Need-returns-3
+returns-3 : tie.Need-returns-else-at-s
 returns-3 c =
-    let a = c.before.before.args in
+    let a = c.args in
     let h : length a.s.now < a.at + 4 = omega arith in
     sym (number_past 4 a.s.now a.at h)
 
-pub number-spec : {M : Type 1} → statement M
-number-spec =
+pub number_spec : {M : Type 1} → statement M
+number_spec =
     tie.close
     (tie.spec
     (λ c. search rules)

@@ -7,19 +7,19 @@ use Rattle.cases.proofs.Reading.{start_later}
 use Rattle.cases.proofs.part.Statement.{statement}
 use Rattle.cases.proofs.part.Tie as tie
 
-returns : tie.Need-returns
+returns : tie.Need-returns-then-k-eq0
 unfolding part_of
-returns c = rw (c.between.ensures, c.before.before.start.ensures, c.before.end.ensures, c.before.before.before.if1.true)
+returns c = rw (c.between.ensures, c.start.ensures, c.end.ensures, c.if-k-eq0.true)
 
-returns-2 : tie.Need-returns-2
+returns-2 : tie.Need-returns
 unfolding part_of
 returns-2 c =
-    let a = c.before.before.before.before.before.args in
+    let a = c.args in
     let h : 0 < a.k = omega arith in
-    rw (c.between2.ensures, c.before.before.end2.ensures, c.before.end3.ensures, start_later a.body.now a.k h)
+    rw (c.between-2.ensures, c.end-2.ensures, c.end-3.ensures, start_later a.body.now a.k h)
 
-pub part-spec : {M : Type 1} → statement M
-part-spec =
+pub part_spec : {M : Type 1} → statement M
+part_spec =
     tie.close
     (tie.spec
     (λ c κs. search rules)

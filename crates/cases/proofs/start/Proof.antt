@@ -6,11 +6,11 @@ use Rattle.cases.specs.Cases.{start_of}
 use Rattle.cases.proofs.start.Statement.{statement}
 use Rattle.cases.proofs.start.Tie as tie
 
-returns : tie.Need-returns
+returns : tie.Need-returns-then-body-lt2
 unfolding start_of
-returns c = rw (get_or-eq_default c.before.before.args.body.now 0 {n = 1} (omega arith))
+returns c = rw (get_or-eq_default c.args.body.now 0 {n = 1} (omega arith))
 
-returns-2 : tie.Need-returns-2
+returns-2 : tie.Need-returns
 unfolding start_of
 returns-2 c = rw c.wide.ensures.0
 

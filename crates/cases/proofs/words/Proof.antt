@@ -9,40 +9,40 @@ use Rattle.cases.proofs.Reading.{Putting, put_all, put_more, put_none}
 use Rattle.cases.proofs.words.Statement.{statement}
 use Rattle.cases.proofs.words.Tie as tie
 
-abbrev invariant-loop : tie.invariant-loop
-invariant-loop body k out₀ numbers n i₀ out i = Putting 8 n numbers out₀ out i
+abbrev invariant-loop-i : tie.invariant-loop-i
+invariant-loop-i body k out₀ numbers n i₀ out i = Putting 8 n numbers out₀ out i
 
-abbrev decreases-loop : tie.decreases-loop
-decreases-loop body k out₀ numbers n i₀ out i = n - i
+abbrev decreases-loop-i : tie.decreases-loop-i
+decreases-loop-i body k out₀ numbers n i₀ out i = n - i
 
-loop-holds : tie.Need-loop-init invariant-loop decreases-loop
+loop-holds : tie.Need-loop-i-init invariant-loop-i decreases-loop-i
 loop-holds c =
     let p = c.before in
-    put_none 8 c.shorter.result p.part.result.now p.before.before.before.args.out.now
+    put_none 8 c.shorter-n.result p.part-numbers.result.now p.args.out.now
 
-loop-again : tie.Need-loop-preserved invariant-loop decreases-loop
+loop-again : tie.Need-loop-i-preserved invariant-loop-i decreases-loop-i
 loop-again c =
     let l = c.before.before in
     let p = l.before.before in
-    let numbers = p.part.result.now in
-    let out₀ = p.before.before.before.args.out.now in
-    let h : 8 * l.loop.i + 8 ≤ length numbers = omega arith in
-    put_more 8 l.before.shorter.result numbers out₀ l.loop.out l.loop.i _ (omega arith) (omega arith) h c.word.ensures l.loop.invariant
+    let numbers = p.part-numbers.result.now in
+    let out₀ = p.args.out.now in
+    let h : 8 * l.loop-i.i + 8 ≤ length numbers = omega arith in
+    put_more 8 l.shorter-n.result numbers out₀ l.loop-i.out l.loop-i.i _ (omega arith) (omega arith) h c.word.ensures l.loop-i.invariant
 
-returns : tie.Need-returns invariant-loop decreases-loop
+returns : tie.Need-returns invariant-loop-i decreases-loop-i
 returns c =
     let l = c.before.before in
     let p = l.before.before in
-    let out₀ = p.before.before.before.args.out.now in
-    rw (← p.part.ensures)
-    (put_all 8 l.before.shorter.result p.part.result.now out₀ l.loop.out l.loop.i l.before.shorter.ensures (omega arith) l.loop.invariant)
+    let out₀ = p.args.out.now in
+    rw (← p.part-numbers.ensures)
+    (put_all 8 l.shorter-n.result p.part-numbers.result.now out₀ l.loop-i.out l.loop-i.i l.shorter-n.ensures (omega arith) l.loop-i.invariant)
 
-pub words-spec : {M : Type 1} → statement M
-words-spec =
+pub words_spec : {M : Type 1} → statement M
+words_spec =
     tie.close
     (tie.spec
-    invariant-loop
-    decreases-loop
+    invariant-loop-i
+    decreases-loop-i
     (λ c κs. search rules)
     (λ c κs. search rules)
     loop-holds

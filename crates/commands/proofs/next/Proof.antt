@@ -7,11 +7,11 @@ use Rattle.semantics.specs.Parse.{command_at}
 use Rattle.commands.proofs.next.Statement.{statement}
 use Rattle.commands.proofs.next.Tie as tie
 
-width_is : (c : tie.After-width-of) → c.width_of_lem.result ≡ (command_row (command_at c.before.before.before.before.args.code.now c.before.before.before.before.args.at)).width
-width_is c = c.width_of_lem.ensures ∙ ap (λ (d : Command). (command_row d).width) c.before.command-of.ensures
+width_is : (c : tie.After-width_of) → c.width_of_lem.result ≡ (command_row (command_at c.args.code.now c.args.at)).width
+width_is c = c.width_of_lem.ensures ∙ ap (λ (d : Command). (command_row d).width) c.command_of-command.ensures
 
-pub next-spec : {M : Type 1} → statement M
-next-spec =
+pub next_spec : {M : Type 1} → statement M
+next_spec =
     tie.close
     (tie.spec
     (λ c. search rules)
@@ -20,4 +20,4 @@ next-spec =
     (λ c. search rules)
     (λ c κs. search rules)
     (λ c. search (rules, width_is c))
-    (λ c. rw (width_is c, c.before.command-of.ensures)))
+    (λ c. rw (width_is c, c.command_of-command.ensures)))

@@ -3,8 +3,8 @@ use borrow.Author.Rules.{rules}
 use Rattle.commands.proofs.width_of.Statement.{statement}
 use Rattle.commands.proofs.width_of.Tie as tie
 
-pub width-of-spec : {M : Type 1} → statement M
-width-of-spec =
+pub width_of_spec : {M : Type 1} → statement M
+width_of_spec =
     tie.close
     (tie.spec
     (λ c. search rules)
@@ -19,15 +19,15 @@ width-of-spec =
     (λ c. search rules)
     (λ c. search rules)
     (λ c. search rules)
-    (λ c. rw c.enum_told.given.1)
-    (λ c. rw c.enum-told2.given.1)
-    (λ c. rw c.enum-told3.given.1)
-    (λ c. rw c.enum-told4.given.1)
-    (λ c. rw c.enum-told5.given.1)
-    (λ c. rw c.enum-told6.given.1)
-    (λ c. rw c.enum-told7.given.1)
-    (λ c. rw c.enum-told8.given.1)
-    (λ c. rw c.enum-told9.given.1)
-    (λ c. rw c.enum-told10.given.1)
-    (λ c. rw c.enum-told11.given.1)
-    (λ c. rw c.enum-told12.given.1))
+    (λ c. rw c.in-Unknown.is)
+    (λ c. rw c.in-IdxConst.is)
+    (λ c. rw c.in-CurrIdx.is)
+    (λ c. rw c.in-Index.is)
+    (λ c. rw c.in-Const.is)
+    (λ c. rw c.in-CurrInputIdx.is)
+    (λ c. rw c.in-Lookup.is)
+    (λ c. rw c.in-Binary.is)
+    (λ c. rw c.in-Unary.is)
+    (λ c. rw c.in-PriceOracle1.is)
+    (λ c. rw c.in-PriceOracle1W.is)
+    (λ c. rw c.in-Compare.is))

@@ -5,15 +5,15 @@ use Rattle.condition.specs.Walk.{examined}
 use Rattle.condition.proofs.examine.Statement.{statement}
 use Rattle.condition.proofs.examine.Tie as tie
 
-pub examine-spec : {M : Type 1} → statement M
+pub examine_spec : {M : Type 1} → statement M
 unfolding examined
-examine-spec =
+examine_spec =
     tie.close
     (tie.spec
-    (λ c. rw (lt-ltb _ _ c.if1.true))
+    (λ c. rw (lt-ltb _ _ c.if-code-gt-MAX_CODE.true))
     (λ c κs. search rules)
     (λ c. search rules)
     (λ c. search rules)
     (λ c κs. search rules)
-    (λ c. rw (le-ltb _ _ c.before.before.before.before.if1.false, ← c.before.before.before.walk.ensures, c.before.at.given.1))
-    (λ c. rw (le-ltb _ _ c.before.before.before.before.before.if1.false, ← c.before.before.before.before.walk.ensures, c.before.before.s.given.1) c.judge.ensures))
+    (λ c. rw (le-ltb _ _ c.if-code-gt-MAX_CODE.false, ← c.walk.ensures, c.in-Refused.is))
+    (λ c. rw (le-ltb _ _ c.if-code-gt-MAX_CODE.false, ← c.walk.ensures, c.in-Ended.is) c.judge.ensures))

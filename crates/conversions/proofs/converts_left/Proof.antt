@@ -3,15 +3,15 @@ use borrow.Author.Rules.{rules}
 use Rattle.conversions.proofs.converts_left.Statement.{statement}
 use Rattle.conversions.proofs.converts_left.Tie as tie
 
-pub converts-left-spec : {M : Type 1} → statement M
-converts-left-spec =
+pub converts_left_spec : {M : Type 1} → statement M
+converts_left_spec =
     tie.close
     (tie.spec
     (λ c. search rules)
     (λ c. search rules)
     (λ c. search rules)
     (λ c. search rules)
-    (λ c. rw c.enum_told.given.1)
-    (λ c. rw c.enum-told2.given.1)
-    (λ c. rw c.enum-told3.given.1)
-    (λ c. rw c.enum-told4.given.1))
+    (λ c. rw c.in-Add.is)
+    (λ c. rw c.in-Sub.is)
+    (λ c. rw c.in-Mul.is)
+    (λ c. rw c.in-Div.is))

@@ -13,80 +13,80 @@ use Rattle.conversions.proofs.Unmarked.{found-unmarked}
 use Rattle.conversions.proofs.mark.Statement.{statement}
 use Rattle.conversions.proofs.mark.Tie as tie
 
-abbrev invariant-loop : tie.invariant-loop
-invariant-loop code lookups waiting₀ marks₀ at₀ count₀ indexes₀ waiting marks at count indexes =
+abbrev invariant-loop-at : tie.invariant-loop-at
+invariant-loop-at code lookups waiting₀ marks₀ at₀ count₀ indexes₀ waiting marks at count indexes =
     Loop code lookups (length waiting₀) (length marks₀) waiting marks at count indexes
 
-abbrev decreases-loop : tie.decreases-loop
-decreases-loop code lookups waiting₀ marks₀ at₀ count₀ indexes₀ waiting marks at count indexes = length code - at
+abbrev decreases-loop-at : tie.decreases-loop-at
+decreases-loop-at code lookups waiting₀ marks₀ at₀ count₀ indexes₀ waiting marks at count indexes = length code - at
 
-abbrev begin : tie.At-loop invariant-loop decreases-loop → tie.Start invariant-loop decreases-loop
+abbrev begin : tie.At-loop-at invariant-loop-at decreases-loop-at → tie.Start invariant-loop-at decreases-loop-at
 begin a = a.before.before.before.before.before
 
 -- in a turn
-module _ (t : tie.In-loop invariant-loop decreases-loop) where
-  abbrev a : tie.At-loop invariant-loop decreases-loop
+module _ (t : tie.In-loop-at invariant-loop-at decreases-loop-at) where
+  abbrev a : tie.At-loop-at invariant-loop-at decreases-loop-at
   a = t.before
 
   abbrev code : List ℕ
   code = (begin a).args.code.now
 
-  operands : after code a.loop.at ≤ length code
-  operands = loop_operands code _ _ _ a.loop.waiting a.loop.marks a.loop.at a.loop.count a.loop.indexes a.loop.inv t.loop-test.taken
+  operands : after code a.loop-at.at ≤ length code
+  operands = loop_operands code _ _ _ a.loop-at.waiting a.loop-at.marks a.loop-at.at a.loop-at.count a.loop-at.indexes a.loop-at.inv t.loop-at-test.taken
 
-  below : (a.loop.count < length a.loop.marks) × (a.loop.count < max_tokens)
-  below = loop_below code _ _ _ a.loop.waiting a.loop.marks a.loop.at a.loop.count a.loop.indexes a.loop.inv t.loop-test.taken
+  below : (a.loop-at.count < length a.loop-at.marks) × (a.loop-at.count < max_tokens)
+  below = loop_below code _ _ _ a.loop-at.waiting a.loop-at.marks a.loop-at.at a.loop-at.count a.loop-at.indexes a.loop-at.inv t.loop-at-test.taken
 
-  ready : Ready (command_at code a.loop.at) a.loop.count a.loop.indexes a.loop.waiting a.loop.marks
-  ready = loop_ready code _ _ _ a.loop.waiting a.loop.marks a.loop.at a.loop.count a.loop.indexes a.loop.inv t.loop-test.taken
+  ready : Ready (command_at code a.loop-at.at) a.loop-at.count a.loop-at.indexes a.loop-at.waiting a.loop-at.marks
+  ready = loop_ready code _ _ _ a.loop-at.waiting a.loop-at.marks a.loop-at.at a.loop-at.count a.loop-at.indexes a.loop-at.inv t.loop-at-test.taken
 
-returns-2 : tie.Need-returns-2 invariant-loop decreases-loop
+returns-2 : tie.Need-returns-in-TooLarge invariant-loop-at decreases-loop-at
 returns-2 c =
-    let s = c.before.before.before.before.before.before in
+    let s = c.before.before.before.before.before in
     let t = s.before.before.before in
-    loop_refused (code t) _ _ _ (a t).loop.waiting (a t).loop.marks (a t).loop.at (a t).loop.count (a t).loop.indexes (a t).loop.invariant t.loop-test.true _
-    (sym (rw c.enum_told.given.1 at s.step.ensures))
+    loop_refused (code t) _ _ _ (a t).loop-at.waiting (a t).loop-at.marks (a t).loop-at.at (a t).loop-at.count (a t).loop-at.indexes (a t).loop-at.invariant t.loop-at-test.true _
+    (sym (rw c.in-TooLarge.is at s.step.ensures))
 
-loop-less : tie.Need-loop-smaller invariant-loop decreases-loop
+loop-less : tie.Need-loop-at-smaller invariant-loop-at decreases-loop-at
 loop-less c =
-    let s = c.before.before.before.before.before.before.before in
+    let s = c.before.before.before.before.before in
     let t = s.before.before.before in
-    let told = rw c.before.next.given.1 at s.step.ensures in
+    let told = rw c.in-On.is at s.step.ensures in
     omega (arith, told.1, operands t)
 
-loop-again : tie.Need-loop-preserved invariant-loop decreases-loop
+loop-again : tie.Need-loop-at-preserved invariant-loop-at decreases-loop-at
 loop-again c =
-    let s = c.before.before.before.before.before.before.before in
+    let s = c.before.before.before.before.before in
     let t = s.before.before.before in
-    let told = rw c.before.next.given.1 at s.step.ensures in
+    let told = rw c.in-On.is at s.step.ensures in
     rw told.1
-    (loop_next (code t) _ _ _ (a t).loop.waiting (a t).loop.marks (a t).loop.at (a t).loop.count (a t).loop.indexes (a t).loop.invariant t.loop-test.true
+    (loop_next (code t) _ _ _ (a t).loop-at.waiting (a t).loop-at.marks (a t).loop-at.at (a t).loop-at.count (a t).loop-at.indexes (a t).loop-at.invariant t.loop-at-test.true
     (sym told.0) _ _ _ (omega arith) (omega arith) told.2)
 
 pub mark_spec : {M : Type 1} → statement M
 mark_spec =
     tie.close
     (tie.spec
-    invariant-loop
-    decreases-loop
+    invariant-loop-at
+    decreases-loop-at
     (λ c.
     let s = c.before.before.before.before in
-    found-unmarked s.args.code.now s.args.marks.now _ _ s.requires.0 (omega (arith, c.if1.true)) s.requires.1)
+    found-unmarked s.args.code.now s.args.marks.now _ _ s.requires.0 (omega (arith, c.if-lookups-eq0.true)) s.requires.1)
     (λ c.
     let s = c.before.before.before.before in
     loop_start s.args.code.now s.args.lookups s.args.waiting.now s.args.marks.now s.requires.0)
     (λ c κs. let t = c.before.before in (operands t, ready t))
     (λ c. search rules)
     (λ c. search rules)
-    (λ c. omega (arith, c.before.before.before.before.before.before.before.before.before.before.loop.invariant.waiting_long))
-    (λ c. omega (arith, c.before.before.before.before.before.before.before.before.before.before.loop.invariant.marks_long))
+    (λ c. omega (arith, c.loop-at.invariant.waiting_long))
+    (λ c. omega (arith, c.loop-at.invariant.marks_long))
     returns-2
-    (λ c. omega (arith, below c.before.before.before.before.before.before.before.before.before.before))
-    (λ c. omega (arith, (below c.before.before.before.before.before.before.before.before.before.before).1))
+    (λ c. omega (arith, below c.before.before.before.before.before.before.before.before))
+    (λ c. omega (arith, (below c.before.before.before.before.before.before.before.before).1))
     loop-less
     loop-again
-    (λ c. c.before.loop.invariant.waiting_long)
-    (λ c. c.before.loop.invariant.marks_long)
+    (λ c. c.loop-at.invariant.waiting_long)
+    (λ c. c.loop-at.invariant.marks_long)
     (λ c.
     let a = c.before in
-    loop_found (begin a).args.code.now _ _ _ a.loop.waiting a.loop.marks a.loop.at a.loop.count a.loop.indexes a.loop.invariant c.loop-test.false))
+    loop_found (begin a).args.code.now _ _ _ a.loop-at.waiting a.loop-at.marks a.loop-at.at a.loop-at.count a.loop-at.indexes a.loop-at.invariant c.loop-at-test.false))

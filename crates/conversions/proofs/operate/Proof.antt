@@ -14,24 +14,24 @@ ready : (s : tie.Start)
     × (get_or s.args.waiting.now (s.args.indexes - 2) 0 < s.args.count)
 ready s = ready_index s.args.waiting.now s.args.indexes s.args.marks.now s.args.count s.args.op s.requires
 
-pub operate-spec : {M : Type 1} → statement M
-operate-spec =
+pub operate_spec : {M : Type 1} → statement M
+operate_spec =
     tie.close
     (tie.spec
     (λ c. omega (arith, (ready c.before.before).0))
     (λ c. search rules)
-    (λ c. omega (arith, (ready c.before.before.before).0, c.before.before.before.requires.indexes_fit))
-    (λ c. omega (arith, ready c.before.before.before, c.before.before.before.requires.few))
+    (λ c. omega (arith, (ready c.before.before.before).0, c.requires.indexes_fit))
+    (λ c. omega (arith, ready c.before.before.before, c.requires.few))
     (λ c κs. search rules)
-    (λ c. omega (arith, ready c.before.before.before.before, c.before.before.before.before.requires.count_fits))
+    (λ c. omega (arith, ready c.before.before.before.before, c.requires.count_fits))
     (λ c. omega (arith, (ready c.before.before.before.before).0))
     (λ c κs. (
-      c.before.before.before.before.before.requires.few,
-      omega (arith, (ready c.before.before.before.before.before).0, c.before.before.before.before.before.requires.indexes_fit),
+      c.requires.few,
+      omega (arith, (ready c.before.before.before.before.before).0, c.requires.indexes_fit),
     ))
     (λ c. search rules)
     (λ c. search rules)
     (λ c.
     let s = c.before.before.before.before.before.before.before.before in
-    rw c.before.before.before.before.converts-left.ensures
-    (operated s.args.waiting.now s.args.indexes s.args.marks.now s.args.count s.args.op s.requires _ refl _ c.before.before.push.ensures)))
+    rw c.converts_left.ensures
+    (operated s.args.waiting.now s.args.indexes s.args.marks.now s.args.count s.args.op s.requires _ refl _ c.push.ensures)))

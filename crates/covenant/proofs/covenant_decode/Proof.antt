@@ -5,14 +5,14 @@ use Rattle.answers.proofs.Accepted.{answer-number, answer_unambiguous}
 use Rattle.covenant.proofs.covenant_decode.Statement.{statement}
 use Rattle.covenant.proofs.covenant_decode.Tie as tie
 
-pub covenant-decode-spec : {M : Type 1} → statement M
-covenant-decode-spec =
+pub covenant_decode_spec : {M : Type 1} → statement M
+covenant_decode_spec =
     tie.close
     (tie.spec
     (λ c κs. search rules)
     (λ c κs. search rules)
     (λ c. search rules)
     (λ c.
-    let d = c.before.before.before.decode in
+    let d = c.decode in
     rw (← d.ensures.0)
-    (c.decode-answer.ensures, (refl, (rw c.decode-answer.ensures (answer_unambiguous _ c.before.before.before.before.before.before.before.before.before.before.args.code.now _ _ d.ensures.1.0), rw (c.decode-answer.ensures, answer-number d.result) d.ensures.1.1)))))
+    (c.decode_answer.ensures, (refl, (rw c.decode_answer.ensures (answer_unambiguous _ c.args.code.now _ _ d.ensures.1.0), rw (c.decode_answer.ensures, answer-number d.result) d.ensures.1.1)))))

@@ -4,11 +4,11 @@ use mathlib.Core.Path.{refl}
 use Rattle.covenant.proofs.covenant_evaluate.Statement.{statement}
 use Rattle.covenant.proofs.covenant_evaluate.Tie as tie
 
-pub covenant-evaluate-spec : {M : Type 1} → statement M
-covenant-evaluate-spec =
+pub covenant_evaluate_spec : {M : Type 1} → statement M
+covenant_evaluate_spec =
     tie.close
     (tie.spec
     (λ c κs. search rules)
     (λ c κs. search rules)
     (λ c. search rules)
-    (λ c. rw (← c.before.before.before.evaluate.ensures) (c.verdict-answer.ensures, refl)))
+    (λ c. rw (← c.evaluate-answer.ensures) (c.verdict_answer.ensures, refl)))

@@ -6,8 +6,8 @@ use Rattle.answers.specs.Answers.{write_answer}
 use Rattle.covenant.proofs.covenant_write.Statement.{statement}
 use Rattle.covenant.proofs.covenant_write.Tie as tie
 
-pub covenant-write-spec : {M : Type 1} → statement M
-covenant-write-spec =
+pub covenant_write_spec : {M : Type 1} → statement M
+covenant_write_spec =
     tie.close
     (tie.spec
     (λ c κs. search rules)
@@ -16,4 +16,4 @@ covenant-write-spec =
     (λ c. search rules)
     (λ c. search rules)
     (λ c. search rules)
-    (λ c. let w = c.before.before.before.before.before.before.before.before.before.write.ensures in (c.write-answer.ensures ∙ ap (λ (x : Wrote). write_answer x.answer) w, ap (λ (x : Wrote). x.records) w)))
+    (λ c. let w = c.write.ensures in (c.write_answer.ensures ∙ ap (λ (x : Wrote). write_answer x.answer) w, ap (λ (x : Wrote). x.records) w)))

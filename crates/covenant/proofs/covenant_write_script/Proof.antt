@@ -6,11 +6,11 @@ use Rattle.answers.specs.Answers.{script_answer}
 use Rattle.covenant.proofs.covenant_write_script.Statement.{statement}
 use Rattle.covenant.proofs.covenant_write_script.Tie as tie
 
-pub covenant-write-script-spec : {M : Type 1} → statement M
-covenant-write-script-spec =
+pub covenant_write_script_spec : {M : Type 1} → statement M
+covenant_write_script_spec =
     tie.close
     (tie.spec
     (λ c κs. search rules)
     (λ c κs. search rules)
     (λ c. search rules)
-    (λ c. let w = c.before.before.before.write-script.ensures in (c.script-answer.ensures ∙ ap (λ (x : WroteScript). script_answer x.answer) w, ap (λ (x : WroteScript). x.buffer) w)))
+    (λ c. let w = c.write_script.ensures in (c.script_answer.ensures ∙ ap (λ (x : WroteScript). script_answer x.answer) w, ap (λ (x : WroteScript). x.buffer) w)))

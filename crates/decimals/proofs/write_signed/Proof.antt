@@ -13,31 +13,31 @@ use Rattle.decimals.proofs.write_signed.Statement.{statement}
 use Rattle.decimals.proofs.write_signed.Tie as tie
 
 -- a negative number: its text, and that its digits leave room for the hyphen
-module _ (a : tie.After-write-decimal-arg2) where
+module _ (a : tie.After-write_decimal-arg-2-1) where
   abbrev s : tie.Start
   s = a.before.before.before
 
   is : signed (signed_of s.args.bits) ≡ hyphen ∷ decimal (18446744073709551615 - s.args.bits + 1)
-  is = signed_neg s.args.bits (omega (arith, a.before.if1.left)) (omega arith)
+  is = signed_neg s.args.bits (omega (arith, a.if-bits-lt-HALF.left)) (omega arith)
 
   room : length (decimal (18446744073709551615 - s.args.bits + 1)) < length s.args.out.now
   room = omega (arith, rw is at s.pre)
 
-begins : (w : tie.After-write-decimal2) → 0 < w.write-decimal2.result
-begins w = omega (arith, room w.before, w.write-decimal2.ensures.ends)
+begins : (w : tie.After-write_decimal-start) → 0 < w.write_decimal-start.result
+begins w = omega (arith, room w.before, w.write_decimal-start.ensures.ends)
 
-pub write-signed-spec : {M : Type 1} → statement M
-write-signed-spec =
+pub write_signed_spec : {M : Type 1} → statement M
+write_signed_spec =
     tie.close
     (tie.spec
-    (λ c κs. let s = c.before.before.before in rw (signed_pos s.args.bits c.before.if1.true) at s.requires)
+    (λ c κs. let s = c.before.before.before in rw (signed_pos s.args.bits c.if-bits-lt-HALF.true) at s.requires)
     (λ c. search rules)
     (λ c.
     let w = c.before.before in
-    rw (signed_pos w.before.before.before.before.args.bits w.before.before.if1.true) w.write-decimal.ensures)
+    rw (signed_pos w.args.bits w.if-bits-lt-HALF.true) w.write_decimal.ensures)
     (λ c. search rules)
     (λ c κs. omega (arith, room c))
     (λ c. begins c.before.before)
-    (λ c. let w = c.before.before in omega (arith, begins w, ending-length w.write-decimal2.ensures, w.write-decimal2.ensures.ends))
+    (λ c. let w = c.before.before in omega (arith, begins w, ending-length w.write_decimal-start.ensures, w.write_decimal-start.ensures.ends))
     (λ c. search rules)
-    (λ c. let w = c.before.before in rw (is w.before) (ending_more hyphen w.write-decimal2.ensures (begins w))))
+    (λ c. let w = c.before.before in rw (is w.before) (ending_more hyphen w.write_decimal-start.ensures (begins w))))

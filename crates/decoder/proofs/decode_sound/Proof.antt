@@ -23,95 +23,95 @@ abbrev records : tie.Start → Records
 records s = records_of s.args.kinds.now s.args.numbers.now s.args.places.now s.args.keys.now
 
 -- what a place after the slices' contents are known knows of them
-abbrev start₁ : tie.After-slice-known → tie.Start
+abbrev start₁ : tie.After-slice_known-1 → tie.Start
 start₁ k = k.before.before.before.before.before
 
-bytes : (k : tie.After-slice-known) → Bytes (start₁ k).args.keys.now
-bytes k = all_of (λ x. x < 256) (start₁ k).args.keys.now 0 (λ i. (k.before.shared-slice-known4.given i).fits)
+bytes : (k : tie.After-slice_known-1) → Bytes (start₁ k).args.keys.now
+bytes k = all_of (λ x. x < 256) (start₁ k).args.keys.now 0 (λ i. (k.shared_slice_known-4-1.given i).fits)
 
-wide : (k : tie.After-slice-known) → All (λ n. n < 2 ^ 64) (start₁ k).args.numbers.now
-wide k = all_of (λ n. n < 2 ^ 64) (start₁ k).args.numbers.now 0 (λ i. (k.before.before.before.shared-slice-known2.given i).fits)
+wide : (k : tie.After-slice_known-1) → All (λ n. n < 2 ^ 64) (start₁ k).args.numbers.now
+wide k = all_of (λ n. n < 2 ^ 64) (start₁ k).args.numbers.now 0 (λ i. (k.shared_slice_known-2-1.given i).fits)
 
 -- the rows are noted
-module _ (c : tie.After-find-rows) where
-  abbrev known : tie.After-slice-known
+module _ (c : tie.After-find_rows) where
+  abbrev known : tie.After-slice_known-1
   known = c.before.before
 
   abbrev begin : tie.Start
   begin = start₁ known
 
   abbrev rows : List ℕ
-  rows = c.find-rows.new.1.1.0
+  rows = c.find_rows.new.1.1.0
 
   noted : Rows (records begin) rows (length begin.args.kinds.now)
-  noted = c.find-rows.ensures begin.args.places.now begin.args.keys.now
+  noted = c.find_rows.ensures begin.args.places.now begin.args.keys.now
 
   fits : Fitting rows (length begin.args.kinds.now)
   fits = rows_fit (records begin) rows _ begin.pre.few noted
 
 -- the reading
-abbrev found : tie.After-read-condition → tie.After-find-rows
+abbrev found : tie.After-read_condition → tie.After-find_rows
 found c = c.before.before.before
 
-abbrev read : tie.After-known-told → tie.After-read-condition
-read c = c.before.before.before
+abbrev read : tie.In-Read → tie.After-read_condition
+read c = c.before
 
-read_is : (c : tie.After-known-told)
-    → let s = begin (found (read c)) in Reading.Read c.before.place.given.0.0 ≡ reading_of (from_tokens (before (token_at (records s)) (length s.args.kinds.now)))
-read_is c = let f = found (read c) in sym c.before.place.given.1 ∙ (read c).read-condition.ensures (records (begin f)) (noted f)
+read_is : (c : tie.In-Read)
+    → let s = begin (found (read c)) in Reading.Read c.in-Read.place ≡ reading_of (from_tokens (before (token_at (records s)) (length s.args.kinds.now)))
+read_is c = let f = found (read c) in sym c.in-Read.is ∙ (read c).read_condition.ensures (records (begin f)) (noted f)
 
-returns : tie.Need-returns
+returns : tie.Need-returns-in_default
 returns c =
-    let d = c.before.before in
+    let d = c.before in
     let f = found d in
     let s = begin f in
     turned_down (records s) s.args.code.now s.pre (bytes (known f)) (wide (known f)) _
-    (read_none (records s) (sym c.enum_told.given.1 ∙ d.read-condition.ensures (records s) (noted f)))
+    (read_none (records s) (sym c.in_default.is ∙ d.read_condition.ensures (records s) (noted f)))
 
 -- and its judgement
-abbrev told : tie.After-judge → tie.After-known-told
+abbrev told : tie.After-judge → tie.In-Read
 told c = c.before.before
 
 judged-is : (c : tie.After-judge)
     → let s = begin (found (read (told c))) in
-    c.judge.result ≡ judged (all_pieces (records s) (told c).before.place.given.0.0)
+    c.judge.result ≡ judged (all_pieces (records s) (told c).in-Read.place)
 judged-is c =
     let f = found (read (told c)) in
     let s = begin f in
     c.judge.ensures s.args.numbers.now s.args.places.now s.args.keys.now (noted f) (ready_whole (records s) s.pre.sound)
 
-returns-2 : tie.Need-returns-2
+returns-2 : tie.Need-returns-in-Broken
 returns-2 c =
-    let j = c.before.before.before in
+    let j = c.before in
     let f = found (read (told j)) in
     let s = begin f in
     turned_down (records s) s.args.code.now s.pre (bytes (known f)) (wide (known f)) _
-    (rule-broken (records s) s.args.code.now s.pre (bytes (known f)) (wide (known f)) _ (read_is (told j)) _ (sym c.before.r.given.1 ∙ judged-is j))
+    (rule-broken (records s) s.args.code.now s.pre (bytes (known f)) (wide (known f)) _ (read_is (told j)) _ (sym c.in-Broken.is ∙ judged-is j))
 
 emit-requires : tie.Need-emit-requires
 emit-requires c κs =
-    let b = c.before.before.before in
-    let j = b.before.before in
+    let b = c.before.before in
+    let j = b.before in
     let f = found (read (told j)) in
     let s = begin f in (
       ready_numbered (records s) s.pre.sound,
       (
         ready_whole (records s) s.pre.sound,
-        (code-room (records s) s.args.code.now s.pre (bytes (known f)) (wide (known f)) _ (read_is (told j)) _ (sym b.bytes.given.1 ∙ judged-is j), (s.pre.few, noted f)),
+        (code-room (records s) s.args.code.now s.pre (bytes (known f)) (wide (known f)) _ (read_is (told j)) _ (sym b.in-Kept.is ∙ judged-is j), (s.pre.few, noted f)),
       ),
     )
 
-returns-3 : tie.Need-returns-3
+returns-3 : tie.Need-returns-in-Kept
 returns-3 c =
     let e = c.before.before in
-    let b = e.before.before.before.before in
-    let j = b.before.before in
+    let b = e.before.before.before in
+    let j = b.before in
     let f = found (read (told j)) in
     let s = begin f in
-    code_accepted (records s) s.args.code.now s.pre (bytes (known f)) (wide (known f)) _ (read_is (told j)) _ (sym b.bytes.given.1 ∙ judged-is j) _ e.emit.ensures
+    code_accepted (records s) s.args.code.now s.pre (bytes (known f)) (wide (known f)) _ (read_is (told j)) _ (sym b.in-Kept.is ∙ judged-is j) _ e.emit.ensures
 
-pub decode-sound-spec : {M : Type 1} → statement M
-decode-sound-spec =
+pub decode_sound_spec : {M : Type 1} → statement M
+decode_sound_spec =
     tie.close
     (tie.spec
     (λ c. search rules)

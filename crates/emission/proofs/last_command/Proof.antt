@@ -27,43 +27,43 @@ module _ (c : tie.After-width) where
   end = start.args.end
 
   own : (1 ≤ c.width.result) × (c.width.result ≤ end)
-  own = own_tokens (rows start) end end _ _ start.pre.0 (omega arith) c.before.before.row_before.ensures c.before.if1.false c.width.ensures
+  own = own_tokens (rows start) end end _ _ start.pre.0 (omega arith) c.row_before-row.ensures c.if-row-ge-ROWS.false c.width.ensures
 
-  found : (r : Records) → Rows r (rows start) end → At (token_at r) end c.before.before.row_before.result (end - c.width.result)
-  found = noted_at (rows start) end end _ _ start.pre.0 (omega arith) c.before.before.row_before.ensures c.before.if1.false c.width.ensures
+  found : (r : Records) → Rows r (rows start) end → At (token_at r) end c.row_before-row.result (end - c.width.result)
+  found = noted_at (rows start) end end _ _ start.pre.0 (omega arith) c.row_before-row.ensures c.if-row-ge-ROWS.false c.width.ensures
 
-returns : tie.Need-returns
+returns : tie.Need-returns-then-row-ge-ROWS
 returns c =
     let b = c.before in
     let s = b.before.before in
     record {
       falls = omega (arith, s.requires.2);
-      met = λ numbers places keys p. met_none (records s numbers places keys) s.args.end _ (b.row_before.ensures ∙ p.noted _ (omega arith)) c.if1.true s.requires.2;
+      met = λ numbers places keys p. met_none (records s numbers places keys) s.args.end _ (b.row_before-row.ensures ∙ p.noted _ (omega arith)) c.if-row-ge-ROWS.true s.requires.2;
     }
 
 -- the current index stands there
-current : (c : tie.After-kind-before) → c.kind-before.result ≡ 4 → 1 ≤ end c.before.before - c.before.before.width.result
-current c e = twin_some (records (start c.before.before) [] [] []) _ _ (c.kind-before.ensures [] [] []) e
+current : (c : tie.After-kind_before) → c.kind_before.result ≡ 4 → 1 ≤ end c.before.before - c.width.result
+current c e = twin_some (records (start c.before.before) [] [] []) _ _ (c.kind_before.ensures [] [] []) e
 
-returns-2 : tie.Need-returns-2
+returns-2 : tie.Need-returns-then-kind_before-eq-CURR_INP
 returns-2 c =
     let w = c.before.before.before in
     record {
       falls = omega (arith, own w);
-      met = λ numbers places keys p. met_twin (records (start w) numbers places keys) (end w) _ _ (found w _ p) c.before.before.if2.true _ (c.before.kind-before.ensures numbers places keys) c.if3.true;
+      met = λ numbers places keys p. met_twin (records (start w) numbers places keys) (end w) _ _ (found w _ p) c.if-row-eq-INPUT.true _ (c.kind_before.ensures numbers places keys) c.if-kind_before-eq-CURR_INP.true;
     }
 
-returns-3 : tie.Need-returns-3
+returns-3 : tie.Need-returns
 returns-3 c =
     let w = c.before.before in
     record {
       falls = omega (arith, own w);
       met = λ numbers places keys p. met-row (records (start w) numbers places keys) (end w) _ _ (found w _ p)
-          (⊎_elim (λ x e f. x.2.left (x.1.ensures numbers places keys ∙ f)) (λ x e f. x.left e) c.before.if2.branch) _ c.command.ensures;
+          (⊎_elim (λ x e f. x.2.left (x.1.ensures numbers places keys ∙ f)) (λ x e f. x.left e) c.if-row-eq-INPUT.branch) _ c.command.ensures;
     }
 
-pub last-command-spec : {M : Type 1} → statement M
-last-command-spec =
+pub last_command_spec : {M : Type 1} → statement M
+last_command_spec =
     tie.close
     (tie.spec
     (λ c κs. search rules)
@@ -72,7 +72,7 @@ last-command-spec =
     (λ c κs. search rules)
     (λ c. (own c).1)
     (λ c κs. omega (arith, (start c.before).pre.1))
-    (λ c. current c.before c.if3.true)
+    (λ c. current c.before c.if-kind_before-eq-CURR_INP.true)
     returns-2
-    (λ c κs. c.before.before.if1.false)
+    (λ c κs. c.if-row-ge-ROWS.false)
     returns-3)

@@ -10,13 +10,13 @@ use Rattle.emission.proofs.put_number.Tie as tie
 returns : tie.Need-returns
 returns c =
     let s = c.before.before.before.before.before in
-    number_put _ _ _ s.args.at s.args.byte s.args.number s.requires.0 s.requires.1 refl c.before.before.write-le64.ensures
+    number_put _ _ _ s.args.at s.args.byte s.args.number s.requires.0 s.requires.1 refl c.write_le64.ensures
 
-same_length : tie.Need-same-length
-same_length c = c.before.before.write-le64.auto.0 ∙ simp length-set
+same_length : tie.Need-shape_of-code
+same_length c = c.write_le64.auto.0 ∙ simp length-set
 
-pub put-number-spec : {M : Type 1} → statement M
-put-number-spec =
+pub put_number_spec : {M : Type 1} → statement M
+put_number_spec =
     tie.close
     (tie.spec
     (λ c. search rules)

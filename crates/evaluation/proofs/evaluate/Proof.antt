@@ -22,65 +22,65 @@ abbrev lent : tie.Start → Lent
 lent s =
     let a = s.args in
     record {
-      env = env_of a.spent.now a.spent-marks.now a.outputs.now a.output-marks.now a.issued.now a.issued-marks.now a.reissued.now a.reissued-marks.now a.current;
+      env = env_of a.spent.now a.spent_marks.now a.outputs.now a.output_marks.now a.issued.now a.issued_marks.now a.reissued.now a.reissued_marks.now a.current;
       witness = a.witness.now;
       ends = a.ends.now;
       buffer = a.out.now;
     }
 
-abbrev begin : tie.After-amounts-sound → tie.Start
-begin m = m.before.before.before.before.before.before.before.before.before.before.before.before.before.before.before.before.before
+abbrev begin : tie.After-amounts_sound → tie.Start
+begin m = m.before.before.before.before.before.before.before.before.before.before.before.before.before.before.before
 
-bytes : (m : tie.After-amounts-sound) → Bytes (begin m).args.code.now
-bytes m = all_of (λ x. x < 256) (begin m).args.code.now 0 (λ i. (m.before.before.before.before.before.before.before.before.before.before.before.before.before.before.before.before.shared-slice-known.given i).fits)
+bytes : (m : tie.After-amounts_sound) → Bytes (begin m).args.code.now
+bytes m = all_of (λ x. x < 256) (begin m).args.code.now 0 (λ i. (m.shared_slice_known-1.given i).fits)
 
 -- what is known of the code, and what Check tells of it
-abbrev last : tie.After-amounts-sound → Summary
-last m = m.before.before.s.given.0.0
+abbrev last : tie.After-amounts_sound → Summary
+last m = m.in-Passed.s
 
-knows : (m : tie.After-amounts-sound) → examined (begin m).args.code.now ≡ Examined.Passed (last m)
-knows m = sym m.before.before.before.before.examine.ensures ∙ m.before.before.s.given.1
+knows : (m : tie.After-amounts_sound) → examined (begin m).args.code.now ≡ Examined.Passed (last m)
+knows m = sym m.examine.ensures ∙ m.in-Passed.is
 
-passes : (m : tie.After-amounts-sound) → checked (begin m).args.code.now ≡ Checked.Passed (last m).tokens (last m).oracles
+passes : (m : tie.After-amounts_sound) → checked (begin m).args.code.now ≡ Checked.Passed (last m).tokens (last m).oracles
 passes m = told (begin m).args.code.now (Examined.Passed (last m)) (knows m)
 
-returns : tie.Need-returns
+returns : tie.Need-returns-then-not-amounts_sound
 returns c =
     let m = c.before.before in
-    rw c.refused2.ensures (refused-amounts (begin m).args.code.now (bytes m) (lent (begin m)) _ _ (passes m) (sym m.amounts-sound.ensures ∙ not-true _ c.before.if1.true))
+    rw c.refused-then-not-amounts_sound.ensures (refused-amounts (begin m).args.code.now (bytes m) (lent (begin m)) _ _ (passes m) (sym m.amounts_sound.ensures ∙ not-true _ c.if-not-amounts_sound.true-raw))
 
-returns-2 : tie.Need-returns-2
+returns-2 : tie.Need-returns-then-not-ends_sound
 returns-2 c =
     let m = c.before.before.before.before in
-    let amounts = sym m.amounts-sound.ensures ∙ not-false _ c.before.before.before.if1.false in
-    rw c.refused3.ensures (refused-witness (begin m).args.code.now (bytes m) (lent (begin m)) _ _ (passes m) amounts (sym c.before.before.ends_sound.ensures ∙ not-true _ c.before.if2.true))
+    let amounts = sym m.amounts_sound.ensures ∙ not-false _ c.if-not-amounts_sound.false-raw in
+    rw c.refused-then-not-ends_sound.ensures (refused-witness (begin m).args.code.now (bytes m) (lent (begin m)) _ _ (passes m) amounts (sym c.ends_sound.ensures ∙ not-true _ c.if-not-ends_sound.true-raw))
 
-returns-3 : tie.Need-returns-3
+returns-3 : tie.Need-returns-then-out-s
 returns-3 c =
     let m = c.before.before.before.before.before.before in
-    let amounts = sym m.amounts-sound.ensures ∙ not-false _ c.before.before.before.before.before.if1.false in
-    let ends = sym c.before.before.before.before.ends_sound.ensures ∙ not-false _ c.before.before.before.if2.false in
-    rw c.refused4.ensures (refused_buffer (begin m).args.code.now (bytes m) (lent (begin m)) _ _ (passes m) amounts ends c.before.if3.true)
+    let amounts = sym m.amounts_sound.ensures ∙ not-false _ c.if-not-amounts_sound.false-raw in
+    let ends = sym c.ends_sound.ensures ∙ not-false _ c.if-not-ends_sound.false-raw in
+    rw c.refused-then-out-s.ensures (refused_buffer (begin m).args.code.now (bytes m) (lent (begin m)) _ _ (passes m) amounts ends c.if-out-s.true)
 
-run-passed-requires : tie.Need-run-passed-requires
+run-passed-requires : tie.Need-run_passed-requires
 run-passed-requires c κs =
     let m = c.before.before.before.before.before.before in
-    (sym c.before.before.before.before.ends_sound.ensures ∙ not-false _ c.before.before.before.if2.false, passed_with (begin m).args.code.now (last m) (knows m) (refl, c.before.if3.false))
+    (sym c.ends_sound.ensures ∙ not-false _ c.if-not-ends_sound.false-raw, passed_with (begin m).args.code.now (last m) (knows m) (refl, c.if-out-s.false))
 
-returns-4 : tie.Need-returns-4
+returns-4 : tie.Need-returns-in-Refused
 returns-4 c =
-    let s = c.before.before.before.before.before.before.before.before.before.before.before.before.before.before.before.before.before in
-    rw c.refused.ensures (refused-first s.args.code.now (lent s) _ (told s.args.code.now (Examined.Refused _) (sym c.before.before.before.before.examine.ensures ∙ c.before.before.r.given.1)))
+    let s = c.before.before.before.before.before.before.before.before.before.before.before.before.before.before.before in
+    rw c.refused.ensures (refused-first s.args.code.now (lent s) _ (told s.args.code.now (Examined.Refused _) (sym c.examine.ensures ∙ c.in-Refused.is)))
 
-returns-5 : tie.Need-returns-5
+returns-5 : tie.Need-returns-else-out-s
 returns-5 c =
     let m = c.before.before.before.before.before.before.before.before.before in
-    let amounts = sym m.amounts-sound.ensures ∙ not-false _ c.before.before.before.before.before.before.before.before.if1.false in
-    let ends = sym c.before.before.before.before.before.before.before.ends_sound.ensures ∙ not-false _ c.before.before.before.before.before.before.if2.false in
-    answers (begin m).args.code.now (bytes m) (lent (begin m)) _ _ (passes m) amounts ends c.before.before.before.before.if3.false _ c.before.before.run-passed.ensures
+    let amounts = sym m.amounts_sound.ensures ∙ not-false _ c.if-not-amounts_sound.false-raw in
+    let ends = sym c.ends_sound.ensures ∙ not-false _ c.if-not-ends_sound.false-raw in
+    answers (begin m).args.code.now (bytes m) (lent (begin m)) _ _ (passes m) amounts ends c.if-out-s.false _ c.run_passed.ensures
 
-pub evaluate-spec : {M : Type 1} → statement M
-evaluate-spec =
+pub evaluate_spec : {M : Type 1} → statement M
+evaluate_spec =
     tie.close
     (tie.spec
     (λ c κs. search rules)

@@ -5,22 +5,22 @@ use Rattle.condition.proofs.Onward.{few_wait, passed_as}
 use Rattle.evaluation.proofs.run_passed.Statement.{statement}
 use Rattle.evaluation.proofs.run_passed.Tie as tie
 
-pub run-passed-spec : {M : Type 1} → statement M
-run-passed-spec =
+pub run_passed_spec : {M : Type 1} → statement M
+run_passed_spec =
     tie.close
     (tie.spec
     (λ c. search rules)
     (λ c. search rules)
-    (λ c κs. let q = c.before.before.before.before.before.before.before.before.before.before.before.before.before.before.before.before.requires in let few = c.before.before.before.if1.true in (q.0, passed_as (λ s k. (omega (arith, k.0, few), omega (arith, k.0, few), k.1)) q.1))
+    (λ c κs. let q = c.requires in let few = c.if-most-lt-FEW.true in (q.0, passed_as (λ s k. (omega (arith, k.0, few), omega (arith, k.0, few), k.1)) q.1))
     (λ c. search rules)
-    (λ c. c.before.before.before.before.run.ensures)
-    (λ c. search rules)
-    (λ c. search rules)
-    (λ c κs. let q = c.before.before.before.before.before.before.before.before.before.before.before.before.before.before.before.before.before.requires in let few = c.before.before.before.if2.true in (q.0, passed_as (λ s k. (omega (arith, k.0, few), omega (arith, k.0, few), k.1)) q.1))
-    (λ c. search rules)
-    (λ c. c.before.before.before.before.run2.ensures)
+    (λ c. c.run.ensures)
     (λ c. search rules)
     (λ c. search rules)
-    (λ c κs. let q = c.before.before.before.before.before.before.before.before.before.before.before.before.before.before.before.before.before.requires in let p = q.1 in let few = few_wait _ p in (q.0, passed_as (λ s k. (omega (arith, k.0, p.known.0, few), omega (arith, k.0, p.known.0, few), k.1)) p))
+    (λ c κs. let q = c.requires in let few = c.if-most-lt-SOME.true in (q.0, passed_as (λ s k. (omega (arith, k.0, few), omega (arith, k.0, few), k.1)) q.1))
     (λ c. search rules)
-    (λ c. c.before.before.before.before.run3.ensures))
+    (λ c. c.run-then-most-lt-SOME.ensures)
+    (λ c. search rules)
+    (λ c. search rules)
+    (λ c κs. let q = c.requires in let p = q.1 in let few = few_wait _ p in (q.0, passed_as (λ s k. (omega (arith, k.0, p.known.0, few), omega (arith, k.0, p.known.0, few), k.1)) p))
+    (λ c. search rules)
+    (λ c. c.run-2.ensures))

@@ -8,28 +8,28 @@ use Rattle.examples.proofs.Nine.{const_past, const-there}
 use Rattle.examples.proofs.constant.Statement.{statement}
 use Rattle.examples.proofs.constant.Tie as tie
 
-returns : tie.Need-returns
+returns : tie.Need-returns-then-code-at-ge9
 returns c =
     let s = c.before.before.before.before.before.before.before.before in
     let a = s.args in
     let h : a.at + 9 ≤ length a.code.now = omega arith in
-    rw (c.before.before.write-le64.ensures, c.before.before.before.bits.ensures, to_z-of_z s.ranges.number)
+    rw (c.write_le64.ensures, c.bits.ensures, to_z-of_z s.ranges.number)
     (const-there a.code.now a.at a.number h)
 
-returns-2 : tie.Need-returns-2
+returns-2 : tie.Need-returns-else-code-at-ge9
 returns-2 c =
-    let a = c.before.before.before.args in
+    let a = c.args in
     let h : length a.code.now < a.at + 9 = omega arith in
     const_past a.code.now a.at a.number h
 
-returns-3 : tie.Need-returns-3
+returns-3 : tie.Need-returns-else-at-code
 returns-3 c =
-    let a = c.before.before.args in
+    let a = c.args in
     let h : length a.code.now < a.at + 9 = omega arith in
     const_past a.code.now a.at a.number h
 
-pub constant-spec : {M : Type 1} → statement M
-constant-spec =
+pub constant_spec : {M : Type 1} → statement M
+constant_spec =
     tie.close
     (tie.spec
     (λ c. search rules)

@@ -4,18 +4,18 @@ use Prim.Native.Nat.{◌-◌}
 use Rattle.examples.proofs.key_places.Statement.{statement}
 use Rattle.examples.proofs.key_places.Tie as tie
 
-abbrev invariant-loop : tie.invariant-loop
-invariant-loop kinds places records i₀ i = Unit {0}
+abbrev invariant-loop-i : tie.invariant-loop-i
+invariant-loop-i kinds places records i₀ i = Unit {0}
 
-abbrev decreases-loop : tie.decreases-loop
-decreases-loop kinds places records i₀ i = records - i
+abbrev decreases-loop-i : tie.decreases-loop-i
+decreases-loop-i kinds places records i₀ i = records - i
 
-pub key-places-spec : {M : Type 1} → statement M
-key-places-spec =
+pub key_places_spec : {M : Type 1} → statement M
+key_places_spec =
     tie.close
     (tie.spec
-    invariant-loop
-    decreases-loop
+    invariant-loop-i
+    decreases-loop-i
     (λ c. search rules)
     (λ c. search rules)
     (λ c. search rules)

@@ -5,9 +5,9 @@ use Rattle.semantics.specs.Code.{max_tokens}
 use Rattle.fields.proofs.to_load.Statement.{statement}
 use Rattle.fields.proofs.to_load.Tie as tie
 
-pub to-load-spec : {M : Type 1} → statement M
-to-load-spec =
+pub to_load_spec : {M : Type 1} → statement M
+to_load_spec =
     tie.close
     (tie.spec
-    (λ c. rw (le-leb c.before.args.count max_tokens (omega arith)))
-    (λ c. rw (lt-leb c.before.args.count max_tokens (omega arith))))
+    (λ c. rw (le-leb c.args.count max_tokens (omega arith)))
+    (λ c. rw (lt-leb c.args.count max_tokens (omega arith))))

@@ -11,17 +11,17 @@ use Rattle.fields.proofs.Loaded.{fields_written, writable_few}
 use Rattle.fields.proofs.write_fields.Statement.{statement}
 use Rattle.fields.proofs.write_fields.Tie as tie
 
-pub write-fields-spec : {M : Type 1} → statement M
-write-fields-spec =
+pub write_fields_spec : {M : Type 1} → statement M
+write_fields_spec =
     tie.close
     (tie.spec
     (λ c κs. search rules)
-    (λ c. omega (arith, c.to_write.ensures, writable_few c.before.before.before.before.before.before.args.count))
-    (λ c. sym (length-take-le _ _ (omega (arith, c.before.to_write.ensures, writable_few c.before.before.before.before.before.before.before.args.count))))
-    (λ c. omega (arith, c.before.to_write.ensures, writable_few c.before.before.before.before.before.before.before.args.count))
-    (λ c. sym (length-take-le _ _ (omega (arith, c.before.before.to_write.ensures, writable_few c.before.before.before.before.before.before.before.before.args.count))))
-    (λ c. omega (arith, c.before.before.to_write.ensures, writable_few c.before.before.before.before.before.before.before.before.args.count))
-    (λ c. sym (length-take-le _ _ (omega (arith, c.before.before.before.to_write.ensures, writable_few c.before.before.before.before.before.before.before.before.before.args.count))))
+    (λ c. omega (arith, c.to_write-n.ensures, writable_few c.args.count))
+    (λ c. sym (length-take-le _ _ (omega (arith, c.to_write-n.ensures, writable_few c.args.count))))
+    (λ c. omega (arith, c.to_write-n.ensures, writable_few c.args.count))
+    (λ c. sym (length-take-le _ _ (omega (arith, c.to_write-n.ensures, writable_few c.args.count))))
+    (λ c. omega (arith, c.to_write-n.ensures, writable_few c.args.count))
+    (λ c. sym (length-take-le _ _ (omega (arith, c.to_write-n.ensures, writable_few c.args.count))))
     (λ c κs. search rules)
     (λ c κs. search rules)
     (λ c. search rules)
@@ -29,11 +29,11 @@ write-fields-spec =
     (λ c. search rules)
     (λ c. search rules)
     (λ c.
-    let a = c.before.before.before.before.before.before.before.before.before.before.before.before.before.before.before.before.before.before.before.before.args in
-    let l = c.before.before.before.before.before.before.before.before.before.write.new.1 in
-    fields_written a.code.now (all_of (λ x. x < 256) a.code.now 0 (λ i. (c.before.before.before.before.before.before.before.before.before.before.before.before.before.before.before.before.before.before.before.shared-slice-known.given i).fits))
-    a.count c.before.before.before.before.before.before.before.before.before.before.before.before.before.before.to_write.result c.before.before.before.before.before.before.before.before.before.before.before.before.before.before.to_write.ensures
+    let a = c.args in
+    let l = c.write.new.1 in
+    fields_written a.code.now (all_of (λ x. x < 256) a.code.now 0 (λ i. (c.shared_slice_known-1.given i).fits))
+    a.count c.to_write-n.result c.to_write-n.ensures
     a.kinds.now a.numbers.now a.places.now a.keys.now
-    (record { kinds = l.0; numbers = l.1.0; places = l.1.1.0; keys = l.1.1.1.0 }) c.write-answer.result
+    (record { kinds = l.0; numbers = l.1.0; places = l.1.1.0; keys = l.1.1.1.0 }) c.write_answer.result
     (omega arith) (omega arith) (omega arith)
-    (c.write-answer.ensures ∙ ap (λ (x : Wrote). write_answer x.answer) c.before.before.before.before.before.before.before.before.before.write.ensures) (ap (λ (x : Wrote). x.records) c.before.before.before.before.before.before.before.before.before.write.ensures)))
+    (c.write_answer.ensures ∙ ap (λ (x : Wrote). write_answer x.answer) c.write.ensures) (ap (λ (x : Wrote). x.records) c.write.ensures)))

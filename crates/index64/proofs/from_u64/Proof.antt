@@ -6,7 +6,7 @@ use Rattle.index64.proofs.from_u64.Statement.{statement}
 use Rattle.index64.proofs.from_u64.Tie as tie
 
 returns : tie.Need-returns
-returns c = rw (c.ranged.ensures, c.before.from-u64.ensures) (within-fitted (pos c.before.before.args.n))
+returns c = rw (c.ranged.ensures, c.from_u64.ensures) (within-fitted (pos c.args.n))
 
-pub from-u64-spec : {M : Type 1} → statement M
-from-u64-spec = tie.close (tie.spec (λ c κs. search rules) (λ c κs. search rules) returns)
+pub from_u64_spec : {M : Type 1} → statement M
+from_u64_spec = tie.close (tie.spec (λ c κs. search rules) (λ c κs. search rules) returns)

@@ -10,7 +10,7 @@ use Rattle.index64.proofs.step_add.Tie as tie
 returns : tie.Need-returns
 returns c =
     let s = c.before.before in
-    rw (c.ranged.ensures, c.before.checked-add.ensures) (within-add _ _ ∙ ap₂ idx_add (to_z-of_z s.ranges.x) (to_z-of_z s.ranges.y))
+    rw (c.ranged.ensures, c.checked_add.ensures) (within-add _ _ ∙ ap₂ idx_add (to_z-of_z s.ranges.x) (to_z-of_z s.ranges.y))
 
-pub step-add-spec : {M : Type 1} → statement M
-step-add-spec = tie.close (tie.spec (λ c κs. search rules) (λ c κs. search rules) returns)
+pub step_add_spec : {M : Type 1} → statement M
+step_add_spec = tie.close (tie.spec (λ c κs. search rules) (λ c κs. search rules) returns)

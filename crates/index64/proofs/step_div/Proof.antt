@@ -10,7 +10,7 @@ use Rattle.index64.proofs.step_div.Tie as tie
 returns : tie.Need-returns
 returns c =
     let s = c.before.before in
-    rw (c.ranged.ensures, c.before.checked-div-euclid.ensures) (within-div _ _ ∙ ap₂ idx_div (to_z-of_z s.ranges.x) (to_z-of_z s.ranges.y))
+    rw (c.ranged.ensures, c.checked_div_euclid.ensures) (within-div _ _ ∙ ap₂ idx_div (to_z-of_z s.ranges.x) (to_z-of_z s.ranges.y))
 
-pub step-div-spec : {M : Type 1} → statement M
-step-div-spec = tie.close (tie.spec (λ c κs. search rules) (λ c κs. search rules) returns)
+pub step_div_spec : {M : Type 1} → statement M
+step_div_spec = tie.close (tie.spec (λ c κs. search rules) (λ c κs. search rules) returns)

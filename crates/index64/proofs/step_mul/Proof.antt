@@ -10,7 +10,7 @@ use Rattle.index64.proofs.step_mul.Tie as tie
 returns : tie.Need-returns
 returns c =
     let s = c.before.before in
-    rw (c.ranged.ensures, c.before.checked-mul.ensures) (within-mul _ _ ∙ ap₂ idx_mul (to_z-of_z s.ranges.x) (to_z-of_z s.ranges.y))
+    rw (c.ranged.ensures, c.checked_mul.ensures) (within-mul _ _ ∙ ap₂ idx_mul (to_z-of_z s.ranges.x) (to_z-of_z s.ranges.y))
 
-pub step-mul-spec : {M : Type 1} → statement M
-step-mul-spec = tie.close (tie.spec (λ c κs. search rules) (λ c κs. search rules) returns)
+pub step_mul_spec : {M : Type 1} → statement M
+step_mul_spec = tie.close (tie.spec (λ c κs. search rules) (λ c κs. search rules) returns)

@@ -12,18 +12,18 @@ use Rattle.keys.proofs.Noting.{from_end, from-here, from_later, position_inside}
 use Rattle.keys.proofs.find_key.Statement.{statement}
 use Rattle.keys.proofs.find_key.Tie as tie
 
-abbrev invariant-loop : tie.invariant-loop
-invariant-loop code at positions count j₀ j =
+abbrev invariant-loop-j : tie.invariant-loop-j
+invariant-loop-j code at positions count j₀ j =
     (j ≤ count) × (j + index_of (key_at code at) (map (key_at code) (drop j (take count positions))) ≡ index_of (key_at code at) (keys_at code positions count))
 
-abbrev decreases-loop : tie.decreases-loop
-decreases-loop code at positions count j₀ j = count - j
+abbrev decreases-loop-j : tie.decreases-loop-j
+decreases-loop-j code at positions count j₀ j = count - j
 
-loop-holds : tie.Need-loop-init invariant-loop decreases-loop
+loop-holds : tie.Need-loop-j-init invariant-loop-j decreases-loop-j
 loop-holds c = (omega arith, zero-add _)
 
-module _ (a : tie.At-loop invariant-loop decreases-loop) where
-  abbrev begin : tie.Start invariant-loop decreases-loop
+module _ (a : tie.At-loop-j invariant-loop-j decreases-loop-j) where
+  abbrev begin : tie.Start invariant-loop-j decreases-loop-j
   begin = a.before.before.before
 
   abbrev code : List ℕ
@@ -39,49 +39,49 @@ module _ (a : tie.At-loop invariant-loop decreases-loop) where
   key = key_at code begin.args.at
 
 -- what the comparison in a turn told
-told : (c : tie.After-is-same-key invariant-loop decreases-loop)
-    → let a = c.before.before.before in c.is-same-key.result ≡ same_bytes (key_at (code a) (get_or (positions a) a.loop.j 0)) (key a)
-told c = c.is-same-key.ensures
+told : (c : tie.After-is_same_key invariant-loop-j decreases-loop-j)
+    → let a = c.before.before.before in c.is_same_key.result ≡ same_bytes (key_at (code a) (get_or (positions a) a.loop-j.j 0)) (key a)
+told c = c.is_same_key.ensures
 
-is-same-key-requires : tie.Need-is-same-key-requires invariant-loop decreases-loop
+is-same-key-requires : tie.Need-is_same_key-requires invariant-loop-j decreases-loop-j
 is-same-key-requires c κs =
     let a = c.before.before in
     let s = begin a in
-    (position_inside (code a) (positions a) (count a) s.pre.1 a.loop.j c.before.loop-test.true, s.pre.0)
+    (position_inside (code a) (positions a) (count a) s.pre.1 a.loop-j.j c.loop-j-test.true, s.pre.0)
 
-returns : tie.Need-returns invariant-loop decreases-loop
+returns : tie.Need-returns-then-is_same_key invariant-loop-j decreases-loop-j
 returns c =
     let t = c.before.before.before in
     let a = t.before in
-    let l = a.loop in
-    let here = from-here (code a) (positions a) (count a) (begin a).requires.1 (key a) l.j t.loop-test.true (sym (told c.before) ∙ c.if1.true) in
+    let l = a.loop-j in
+    let here = from-here (code a) (positions a) (count a) (begin a).requires.1 (key a) l.j t.loop-j-test.true (sym (told c.before) ∙ c.if-is_same_key.true) in
     omega (arith, l.invariant.1, here)
 
-loop-again : tie.Need-loop-preserved invariant-loop decreases-loop
+loop-again : tie.Need-loop-j-preserved invariant-loop-j decreases-loop-j
 loop-again c =
     let t = c.before.before.before in
     let a = t.before in
-    let l = a.loop in
-    let later = from_later (code a) (positions a) (count a) (begin a).requires.1 (key a) l.j t.loop-test.true (sym (told c.before) ∙ c.if1.false) in
-    (omega (arith, t.loop-test.true), omega (arith, l.invariant.1, later))
+    let l = a.loop-j in
+    let later = from_later (code a) (positions a) (count a) (begin a).requires.1 (key a) l.j t.loop-j-test.true (sym (told c.before) ∙ c.if-is_same_key.false) in
+    (omega (arith, t.loop-j-test.true), omega (arith, l.invariant.1, later))
 
-returns-2 : tie.Need-returns-2 invariant-loop decreases-loop
+returns-2 : tie.Need-returns invariant-loop-j decreases-loop-j
 returns-2 c =
     let a = c.before in
-    let l = a.loop in
-    let e : l.j ≡ count a = omega (arith, c.loop-test.false, l.invariant.0) in
+    let l = a.loop-j in
+    let e : l.j ≡ count a = omega (arith, c.loop-j-test.false, l.invariant.0) in
     omega (arith, e, l.invariant.1, from_end (code a) (positions a) (count a) (begin a).requires.1 (key a) l.j e)
 
-pub find-key-spec : {M : Type 1} → statement M
-find-key-spec =
+pub find_key_spec : {M : Type 1} → statement M
+find_key_spec =
     tie.close
     (tie.spec
-    invariant-loop
-    decreases-loop
+    invariant-loop-j
+    decreases-loop-j
     loop-holds
-    (λ c. omega (arith, (begin c.before).pre.1.there, c.loop-test.true, (begin c.before).good))
-    (λ c. omega (arith, (begin c.before.before).pre.1.there, c.before.loop-test.true))
-    (λ c. omega (arith, c.shared-slice-known3.given c.before.before.loop.j))
+    (λ c. omega (arith, (begin c.before).pre.1.there, c.loop-j-test.true, (begin c.before).good))
+    (λ c. omega (arith, (begin c.before.before).pre.1.there, c.loop-j-test.true))
+    (λ c. omega (arith, c.shared_slice_known-in-loop-j-1.given c.loop-j.j))
     is-same-key-requires
     returns
     (λ c. omega arith)

@@ -5,30 +5,30 @@ use Rattle.keys.proofs.Noting.{noted_again, noted-new, noted_none}
 use Rattle.keys.proofs.note_key.Statement.{statement}
 use Rattle.keys.proofs.note_key.Tie as tie
 
-returns : tie.Need-returns
+returns : tie.Need-returns-then-width-ne-KEY_AND_TIME_BYTES
 returns c =
     let s = c.before.before.before in
-    noted_none s.args.code.now s.args.positions.now s.args.count s.requires.3 s.args.width s.args.at c.if1.true
+    noted_none s.args.code.now s.args.positions.now s.args.count s.requires.3 s.args.width s.args.at c.if-width-ne-KEY_AND_TIME_BYTES.true
 
-find-key-requires : tie.Need-find-key-requires
-find-key-requires c κs = let s = c.before.before.before.before in (omega (arith, s.requires.0, c.before.if1.false), s.requires.3)
+find-key-requires : tie.Need-find_key-requires
+find-key-requires c κs = let s = c.before.before.before.before in (omega (arith, s.requires.0, c.if1.false), s.requires.3)
 
-returns-2 : tie.Need-returns-2
+returns-2 : tie.Need-returns-then-find_key-count
 returns-2 c =
     let i = c.before.before.before in
     let s = i.before.before.before in
     noted_again s.args.code.now s.args.positions.now s.args.count s.requires.3 s.args.width s.args.at i.if1.false
-    (omega (arith, c.before.find-key.ensures, c.if2.true))
+    (omega (arith, c.find_key.ensures, c.if-find_key-count.true))
 
-returns-3 : tie.Need-returns-3
+returns-3 : tie.Need-returns
 returns-3 c =
     let i = c.before.before.before in
     let s = i.before.before.before in
     noted-new s.args.code.now s.args.positions.now s.args.count s.requires.3 s.args.width s.args.at i.if1.false
-    (omega (arith, c.before.find-key.ensures, c.if2.false)) (omega (arith, s.requires.0, i.if1.false)) s.requires.2
+    (omega (arith, c.find_key.ensures, c.if-find_key-count.false)) (omega (arith, s.requires.0, i.if1.false)) s.requires.2
 
-pub note-key-spec : {M : Type 1} → statement M
-note-key-spec =
+pub note_key_spec : {M : Type 1} → statement M
+note_key_spec =
     tie.close
     (tie.spec
     returns

@@ -13,18 +13,18 @@ use Rattle.keys.proofs.Noting.{position_inside}
 use Rattle.keys.proofs.write_keys.Statement.{statement}
 use Rattle.keys.proofs.write_keys.Tie as tie
 
-abbrev invariant-loop : tie.invariant-loop
-invariant-loop code positions count keys₀ j₀ keys j = (j ≤ count) × (keys ≡ over (joined (keys_at code positions j)) keys₀)
+abbrev invariant-loop-j : tie.invariant-loop-j
+invariant-loop-j code positions count keys₀ j₀ keys j = (j ≤ count) × (keys ≡ over (joined (keys_at code positions j)) keys₀)
 
-abbrev decreases-loop : tie.decreases-loop
-decreases-loop code positions count keys₀ j₀ keys j = count - j
+abbrev decreases-loop-j : tie.decreases-loop-j
+decreases-loop-j code positions count keys₀ j₀ keys j = count - j
 
-loop-holds : tie.Need-loop-init invariant-loop decreases-loop
+loop-holds : tie.Need-loop-j-init invariant-loop-j decreases-loop-j
 unfolding joined
 loop-holds c = (omega arith, refl)
 
-module _ (a : tie.At-loop invariant-loop decreases-loop) where
-  abbrev begin : tie.Start invariant-loop decreases-loop
+module _ (a : tie.At-loop-j invariant-loop-j decreases-loop-j) where
+  abbrev begin : tie.Start invariant-loop-j decreases-loop-j
   begin = a.before.before.before.before
 
   abbrev code : List ℕ
@@ -36,46 +36,46 @@ module _ (a : tie.At-loop invariant-loop decreases-loop) where
   abbrev count : ℕ
   count = begin.args.count
 
-  long : length a.loop.keys ≡ length begin.args.keys.now
+  long : length a.loop-j.keys ≡ length begin.args.keys.now
   long =
-      let fits = joined-front code positions count begin.pre.0 a.loop.j a.loop.inv.0 in
-      ap length a.loop.inv.1
-      ∙ length_over (joined (keys_at code positions a.loop.j)) begin.args.keys.now (omega (arith, fits, begin.pre.1, a.loop.inv.0))
+      let fits = joined-front code positions count begin.pre.0 a.loop-j.j a.loop-j.inv.0 in
+      ap length a.loop-j.inv.1
+      ∙ length_over (joined (keys_at code positions a.loop-j.j)) begin.args.keys.now (omega (arith, fits, begin.pre.1, a.loop-j.inv.0))
 
-copy-requires : tie.Need-copy-requires invariant-loop decreases-loop
+copy-requires : tie.Need-copy-requires invariant-loop-j decreases-loop-j
 copy-requires c κs =
     let t = c.before.before in
     let a = t.before in
     let s = begin a in
-    let inside = position_inside (code a) (positions a) (count a) s.pre.0 a.loop.j t.loop-test.true in
-    (omega (arith, inside), omega (arith, long a, s.pre.1, t.loop-test.true))
+    let inside = position_inside (code a) (positions a) (count a) s.pre.0 a.loop-j.j t.loop-j-test.true in
+    (omega (arith, inside), omega (arith, long a, s.pre.1, t.loop-j-test.true))
 
-loop-again : tie.Need-loop-preserved invariant-loop decreases-loop
+loop-again : tie.Need-loop-j-preserved invariant-loop-j decreases-loop-j
 loop-again c =
     let t = c.before.before.before.before.before in
     let a = t.before in
     let s = begin a in (
-      omega (arith, t.loop-test.true),
-      rw c.before.before.copy.ensures
-          (copied (code a) (positions a) (count a) s.pre.0 s.args.keys.now a.loop.keys a.loop.j t.loop-test.true a.loop.invariant.1),
+      omega (arith, t.loop-j-test.true),
+      rw c.copy.ensures
+          (copied (code a) (positions a) (count a) s.pre.0 s.args.keys.now a.loop-j.keys a.loop-j.j t.loop-j-test.true a.loop-j.invariant.1),
     )
 
-returns : tie.Need-returns invariant-loop decreases-loop
+returns : tie.Need-returns invariant-loop-j decreases-loop-j
 returns c =
-    let e : c.before.loop.j ≡ count c.before = omega (arith, c.loop-test.false, c.before.loop.invariant.0) in
-    rw e at c.before.loop.invariant.1
+    let e : c.loop-j.j ≡ count c.before = omega (arith, c.loop-j-test.false, c.loop-j.invariant.0) in
+    rw e at c.loop-j.invariant.1
 
-pub write-keys-spec : {M : Type 1} → statement M
-write-keys-spec =
+pub write_keys_spec : {M : Type 1} → statement M
+write_keys_spec =
     tie.close
     (tie.spec
-    invariant-loop
-    decreases-loop
+    invariant-loop-j
+    decreases-loop-j
     loop-holds
-    (λ c. omega (arith, (begin c.before).pre.1, c.loop-test.true, (begin c.before).good))
-    (λ c. omega (arith, (begin c.before.before).pre.0.there, c.before.loop-test.true))
-    (λ c. omega (arith, c.shared-slice-known3.given c.before.before.loop.j))
-    (λ c. omega (arith, (begin c.before.before.before).pre.1, c.before.before.loop-test.true, (begin c.before.before.before).good))
+    (λ c. omega (arith, (begin c.before).pre.1, c.loop-j-test.true, (begin c.before).good))
+    (λ c. omega (arith, (begin c.before.before).pre.0.there, c.loop-j-test.true))
+    (λ c. omega (arith, c.shared_slice_known-in-loop-j-1.given c.loop-j.j))
+    (λ c. omega (arith, (begin c.before.before.before).pre.1, c.loop-j-test.true, (begin c.before.before.before).good))
     copy-requires
     (λ c. omega arith)
     (λ c. omega arith)

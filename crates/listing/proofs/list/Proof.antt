@@ -6,11 +6,11 @@ use Rattle.sheet.proofs.Laws.{Written, written}
 use Rattle.listing.proofs.list.Statement.{statement}
 use Rattle.listing.proofs.list.Tie as tie
 
-sheet-written : (w : tie.After-write-sheet) → Written w.before.before.before.args.code.now w.write-sheet.new.1.0 w.write-sheet.result
-sheet-written w = written w.before.before.before.args.code.now _ w.write-sheet.new.1.0 w.write-sheet.result w.write-sheet.ensures.0 w.write-sheet.ensures.1
+sheet-written : (w : tie.After-write_sheet-n) → Written w.args.code.now w.write_sheet-n.new.1.0 w.write_sheet-n.result
+sheet-written w = written w.args.code.now _ w.write_sheet-n.new.1.0 w.write_sheet-n.result w.write_sheet-n.ensures.0 w.write_sheet-n.ensures.1
 
-pub list-spec : {M : Type 1} → statement M
-list-spec =
+pub list_spec : {M : Type 1} → statement M
+list_spec =
     tie.close
     (tie.spec
     (λ c κs. search rules)

@@ -16,16 +16,16 @@ by_bits s =
       eq_bits s.args.a (negsuc (2 ^ 63 - 1)) s.ranges.a (record { sfits = omega arith }),
     )
 
-returns : tie.Need-returns
-returns c = rw c.match.keys1 at (by_bits c.before)
+returns : tie.Need-returns-in-0
+returns c = rw c.in-0.in-0-own.keys1 at (by_bits c.before)
 
-returns-2 : tie.Need-returns-2
-returns-2 c = rw c.match.keys2 at (by_bits c.before)
+returns-2 : tie.Need-returns-in-minus1
+returns-2 c = rw c.in-minus1.in-minus1-own.keys2 at (by_bits c.before)
 
-returns-3 : tie.Need-returns-3
+returns-3 : tie.Need-returns-in_default
 returns-3 c =
-    let b = of_z w64 c.before.args.b in
-    rw (ne_eqb b 0 c.match.rest.0.1, ne_eqb b (2 ^ 64 - 1) c.match.rest.1) at (by_bits c.before)
+    let b = of_z w64 c.args.b in
+    rw (ne_eqb b 0 c.in_default.in_default-own.rest.0.1, ne_eqb b (2 ^ 64 - 1) c.in_default.in_default-own.rest.1) at (by_bits c.before)
 
-pub has-no-quotient-spec : {M : Type 1} → statement M
-has-no-quotient-spec = tie.close (tie.spec returns returns-2 returns-3)
+pub has_no_quotient_spec : {M : Type 1} → statement M
+has_no_quotient_spec = tie.close (tie.spec returns returns-2 returns-3)

@@ -9,5 +9,5 @@ given c = record { fits_a = c.ranges.a; fits_b = c.ranges.b; divisible = by_posi
 returns : tie.Need-returns
 returns c = plain (given c) c.requires.0
 
-pub nonnegative-by-positive-spec : {M : Type 1} → statement M
-nonnegative-by-positive-spec = tie.close (tie.spec (λ c. asks (given c)) (λ c. asks (given c)) returns)
+pub nonnegative_by_positive_spec : {M : Type 1} → statement M
+nonnegative_by_positive_spec = tie.close (tie.spec (λ c. asks (given c)) (λ c. asks (given c)) returns)

@@ -4,8 +4,8 @@ use mir.Facts.{to_z-of_z}
 use Rattle.operations.proofs.index.Statement.{statement}
 use Rattle.operations.proofs.index.Tie as tie
 
-pub index-spec : {M : Type 1} → statement M
-index-spec =
+pub index_spec : {M : Type 1} → statement M
+index_spec =
     tie.close
     (tie.spec
     (λ c. search rules)
@@ -16,7 +16,7 @@ index-spec =
     (λ c κs. search rules)
     (λ c. search rules)
     (λ c κs. search rules)
-    (λ c. rw (c.before.enum_told.given.1, c.step-add.ensures, to_z-of_z c.before.before.before.ranges.x, to_z-of_z c.before.before.before.ranges.y))
-    (λ c. rw (c.before.enum-told2.given.1, c.step-sub.ensures, to_z-of_z c.before.before.before.ranges.x, to_z-of_z c.before.before.before.ranges.y))
-    (λ c. rw (c.before.enum-told3.given.1, c.step-mul.ensures, to_z-of_z c.before.before.before.ranges.x, to_z-of_z c.before.before.before.ranges.y))
-    (λ c. rw (c.before.enum-told4.given.1, c.step-div.ensures, to_z-of_z c.before.before.before.ranges.x, to_z-of_z c.before.before.before.ranges.y)))
+    (λ c. rw (c.in-Add.is, c.step_add.ensures, to_z-of_z c.ranges.x, to_z-of_z c.ranges.y))
+    (λ c. rw (c.in-Sub.is, c.step_sub.ensures, to_z-of_z c.ranges.x, to_z-of_z c.ranges.y))
+    (λ c. rw (c.in-Mul.is, c.step_mul.ensures, to_z-of_z c.ranges.x, to_z-of_z c.ranges.y))
+    (λ c. rw (c.in-Div.is, c.step_div.ensures, to_z-of_z c.ranges.x, to_z-of_z c.ranges.y)))

@@ -4,8 +4,8 @@ use mir.Facts.{to_z-of_z}
 use Rattle.operations.proofs.unary.Statement.{statement}
 use Rattle.operations.proofs.unary.Tie as tie
 
-pub unary-spec : {M : Type 1} → statement M
-unary-spec =
+pub unary_spec : {M : Type 1} → statement M
+unary_spec =
     tie.close
     (tie.spec
     (λ c. search rules)
@@ -13,5 +13,5 @@ unary-spec =
     (λ c. search rules)
     (λ c κs. search rules)
     (λ c κs. search rules)
-    (λ c. rw (c.before.enum_told.given.1, to_z-of_z (sfits_of c.invert.type-inv), c.invert.ensures, to_z-of_z c.before.before.before.ranges.x))
-    (λ c. rw (c.before.before.enum-told2.given.1, c.or-refused.ensures, c.before.checked-neg.ensures, to_z-of_z c.before.before.before.before.ranges.x)))
+    (λ c. rw (c.in-Invert.is, to_z-of_z (sfits_of c.invert.type_inv), c.invert.ensures, to_z-of_z c.ranges.x))
+    (λ c. rw (c.in-Negate.is, c.or_refused.ensures, c.checked_neg.ensures, to_z-of_z c.ranges.x)))

@@ -10,50 +10,50 @@ use Rattle.productions.proofs.Places.{candidate-div, candidate_fourth, candidate
 use Rattle.productions.proofs.candidate.Statement.{statement}
 use Rattle.productions.proofs.candidate.Tie as tie
 
-by-fourth-requires : tie.Need-by-fourth-requires
+by-fourth-requires : tie.Need-by_fourth-requires
 by-fourth-requires c κs =
     let s = c.before.before.before.before in
-    subst (λ (k : ℕ). k < 36) (sym (c.kind-before2.ensures [] [] [])) (known_kind s.args.kinds.now [] [] [] s.args.end 3 s.requires.0)
+    subst (λ (k : ℕ). k < 36) (sym (c.kind_before.ensures [] [] [])) (known_kind s.args.kinds.now [] [] [] s.args.end 3 s.requires.0)
 
-by-last-requires : tie.Need-by-last-requires
+by-last-requires : tie.Need-by_last-requires
 by-last-requires c κs =
     let s = c.before.before.before.before.before in
-    subst (λ (k : ℕ). k < 36) (sym (c.before.before.before.kind-before.ensures [] [] [])) (known_kind s.args.kinds.now [] [] [] s.args.end 0 s.requires.0)
+    subst (λ (k : ℕ). k < 36) (sym (c.kind_before-last.ensures [] [] [])) (known_kind s.args.kinds.now [] [] [] s.args.end 0 s.requires.0)
 
-tokens : tie.After-kind-before → List ℕ → List ℕ → List ℕ → List Token
-tokens c numbers places keys = let a = c.before.before.args in tokens_before a.kinds.now numbers places keys a.end
+tokens : tie.After-kind_before-last → List ℕ → List ℕ → List ℕ → List Token
+tokens c numbers places keys = let a = c.args in tokens_before a.kinds.now numbers places keys a.end
 
-returns : tie.Need-returns
+returns : tie.Need-returns-then-last-eq-VERIFY
 unfolding tokens
 returns c numbers places keys =
     let k = c.before.before.before in
-    candidate_fourth (tokens k numbers places keys) k.kind-before.result (k.kind-before.ensures numbers places keys) c.before.before.if1.true
-    c.before.kind-before2.result c.by-fourth.result (c.before.kind-before2.ensures numbers places keys) c.by-fourth.ensures
+    candidate_fourth (tokens k numbers places keys) k.kind_before-last.result (k.kind_before-last.ensures numbers places keys) c.if-last-eq-VERIFY.true
+    c.kind_before.result c.by_fourth.result (c.kind_before.ensures numbers places keys) c.by_fourth.ensures
 
-returns-2 : tie.Need-returns-2
+returns-2 : tie.Need-returns-then-kind_before-eq-NIP
 unfolding tokens
 returns-2 c numbers places keys =
     let k = c.before.before.before.before in
-    candidate-index-div (tokens k numbers places keys) k.kind-before.result (k.kind-before.ensures numbers places keys) c.before.before.if2.true
-    c.before.kind-before3.result (c.before.kind-before3.ensures numbers places keys) c.if3.true
+    candidate-index-div (tokens k numbers places keys) k.kind_before-last.result (k.kind_before-last.ensures numbers places keys) c.if-last-eq-LE64_TO_SCRIPT_NUM.true
+    c.kind_before-then-last-eq-LE64_TO_SCRIPT_NUM.result (c.kind_before-then-last-eq-LE64_TO_SCRIPT_NUM.ensures numbers places keys) c.if-kind_before-eq-NIP.true
 
-returns-3 : tie.Need-returns-3
+returns-3 : tie.Need-returns-then-kind_before-eq-VERIFY
 unfolding tokens
 returns-3 c numbers places keys =
     let k = c.before.before.before.before.before in
-    candidate-div (tokens k numbers places keys) k.kind-before.result (k.kind-before.ensures numbers places keys) c.before.before.if4.true
-    c.before.kind-before4.result (c.before.kind-before4.ensures numbers places keys) c.if5.true
+    candidate-div (tokens k numbers places keys) k.kind_before-last.result (k.kind_before-last.ensures numbers places keys) c.if-last-eq-NIP.true
+    c.kind_before-then-last-eq-NIP.result (c.kind_before-then-last-eq-NIP.ensures numbers places keys) c.if-kind_before-eq-VERIFY.true
 
-returns-4 : tie.Need-returns-4
+returns-4 : tie.Need-returns
 unfolding tokens
 returns-4 c numbers places keys =
     let k = c.before.before.before.before in
-    candidate_last (tokens k numbers places keys) k.kind-before.result (k.kind-before.ensures numbers places keys) c.before.before.before.if1.false
-    (⊎_elim (λ w e f. w.2.left (w.1.ensures numbers places keys ∙ f)) (λ w e f. w.left e) c.before.before.if2.branch)
-    (⊎_elim (λ w e f. w.2.left (w.1.ensures numbers places keys ∙ f)) (λ w e f. w.left e) c.before.if4.branch) c.by_Last.result c.by_Last.ensures
+    candidate_last (tokens k numbers places keys) k.kind_before-last.result (k.kind_before-last.ensures numbers places keys) c.if-last-eq-VERIFY.false
+    (⊎_elim (λ w e f. w.2.left (w.1.ensures numbers places keys ∙ f)) (λ w e f. w.left e) c.if-last-eq-LE64_TO_SCRIPT_NUM.branch)
+    (⊎_elim (λ w e f. w.2.left (w.1.ensures numbers places keys ∙ f)) (λ w e f. w.left e) c.if-last-eq-NIP.branch) c.by_last.result c.by_last.ensures
 
-pub candidate-spec : {M : Type 1} → statement M
-candidate-spec =
+pub candidate_spec : {M : Type 1} → statement M
+candidate_spec =
     tie.close
     (tie.spec
     (λ c κs. search rules)

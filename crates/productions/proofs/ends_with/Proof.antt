@@ -12,26 +12,26 @@ use Rattle.productions.proofs.ends_with.Tie as tie
 Several : ℕ → Type 0
 Several k = (k < 29) × (1 < length (row_at k).marks)
 
-returns : tie.Need-returns
+returns : tie.Need-returns-then-row-eq-ORACLES
 returns c places keys =
     let s = c.before.before.before.before in
     c.ends.ensures places keys
-    ∙ ap (λ (k : ℕ). ends (row_at k).marks (tokens_before s.args.kinds.now s.args.numbers.now places keys s.args.end)) (sym c.before.if1.true)
+    ∙ ap (λ (k : ℕ). ends (row_at k).marks (tokens_before s.args.kinds.now s.args.numbers.now places keys s.args.end)) (sym c.if-row-eq-ORACLES.true)
 
-returns-2 : tie.Need-returns-2
+returns-2 : tie.Need-returns-then-row-eq-PRICE_ORACLE_1W
 returns-2 c places keys =
     let s = c.before.before.before.before.before in
-    c.ends2.ensures places keys
-    ∙ ap (λ (k : ℕ). ends (row_at k).marks (tokens_before s.args.kinds.now s.args.numbers.now places keys s.args.end)) (sym c.before.if2.true)
+    c.ends-then-row-eq-PRICE_ORACLE_1W.ensures places keys
+    ∙ ap (λ (k : ℕ). ends (row_at k).marks (tokens_before s.args.kinds.now s.args.numbers.now places keys s.args.end)) (sym c.if-row-eq-PRICE_ORACLE_1W.true)
 
-pub ends-with-spec : {M : Type 1} → statement M
+pub ends_with_spec : {M : Type 1} → statement M
 unfolding Several
-ends-with-spec =
+ends_with_spec =
     tie.close
     (tie.spec
-    (λ c κs. (c.before.before.before.requires.0, subst Several c.if1.true c.before.before.before.requires.1))
+    (λ c κs. (c.requires.0, subst Several c.if-row-eq-ORACLES.true c.requires.1))
     returns
-    (λ c κs. (c.before.before.before.before.requires.0, subst Several c.if2.true c.before.before.before.before.requires.1))
+    (λ c κs. (c.requires.0, subst Several c.if-row-eq-PRICE_ORACLE_1W.true c.requires.1))
     returns-2
     (λ c κs. search rules)
     (λ c. search rules))

@@ -7,18 +7,18 @@ use Rattle.productions.proofs.Tokens.{get_d_before, get_d_beyond}
 use Rattle.productions.proofs.kind_before.Statement.{statement}
 use Rattle.productions.proofs.kind_before.Tie as tie
 
-returns : tie.Need-returns
+returns : tie.Need-returns-then-k-end
 returns c numbers places keys =
-    let a = c.before.before.args in
-    ap (λ (t : Token). t.kind) (sym (get_d_before (token_at (records_of a.kinds.now numbers places keys)) a.end a.k (op 0) c.before.if1.true))
+    let a = c.args in
+    ap (λ (t : Token). t.kind) (sym (get_d_before (token_at (records_of a.kinds.now numbers places keys)) a.end a.k (op 0) c.if-k-end.true))
 
-returns-2 : tie.Need-returns-2
+returns-2 : tie.Need-returns-else-k-end
 returns-2 c numbers places keys =
-    let a = c.before.args in
-    ap (λ (t : Token). t.kind) (sym (get_d_beyond (token_at (records_of a.kinds.now numbers places keys)) a.end a.k (op 0) c.if1.false))
+    let a = c.args in
+    ap (λ (t : Token). t.kind) (sym (get_d_beyond (token_at (records_of a.kinds.now numbers places keys)) a.end a.k (op 0) c.if-k-end.false))
 
-pub kind-before-spec : {M : Type 1} → statement M
-kind-before-spec =
+pub kind_before_spec : {M : Type 1} → statement M
+kind_before_spec =
     tie.close
     (tie.spec
     (λ c. search rules)

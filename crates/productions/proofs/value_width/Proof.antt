@@ -7,17 +7,17 @@ use Rattle.productions.proofs.Table.{width_run}
 use Rattle.productions.proofs.value_width.Statement.{statement}
 use Rattle.productions.proofs.value_width.Tie as tie
 
-pub value-width-spec : {M : Type 1} → statement M
+pub value_width_spec : {M : Type 1} → statement M
 unfolding rows bytes_value
-value-width-spec =
+value_width_spec =
     tie.close
     (tie.spec
-    (λ c. width_run 1 0 1 _ refl (omega arith) c.if1.true)
-    (λ c. width_run 4 1 2 _ refl c.before.if1.false c.if2.true)
-    (λ c. width_run 8 3 2 _ refl c.before.if2.false c.if3.true)
-    (λ c. width_run 1 5 1 _ refl c.before.if3.false c.if4.true)
-    (λ c. width_run 4 6 4 _ refl c.before.if4.false c.if5.true)
-    (λ c. width_run 5 10 2 _ refl c.before.if5.false c.if6.true)
-    (λ c. width_run 1 12 3 _ refl c.before.if6.false c.if7.true)
-    (λ c. width_run 10 15 1 _ refl c.before.if7.false c.if8.true)
-    (λ c. width_run 13 16 1 _ refl c.if8.false c.before.before.before.before.before.before.before.before.requires))
+    (λ c. width_run 1 0 1 _ refl (omega arith) c.if-row-lt-LOOKUPS.true)
+    (λ c. width_run 4 1 2 _ refl c.if-row-lt-LOOKUPS.false c.if-row-lt-ISSUES.true)
+    (λ c. width_run 8 3 2 _ refl c.if-row-lt-ISSUES.false c.if-row-lt-UNARIES.true)
+    (λ c. width_run 1 5 1 _ refl c.if-row-lt-UNARIES.false c.if-row-lt-NEGATE.true)
+    (λ c. width_run 4 6 4 _ refl c.if-row-lt-NEGATE.false c.if-row-lt-DIV.true)
+    (λ c. width_run 5 10 2 _ refl c.if-row-lt-DIV.false c.if-row-lt-BIT_OPERATIONS.true)
+    (λ c. width_run 1 12 3 _ refl c.if-row-lt-BIT_OPERATIONS.false c.if-row-lt-ORACLES.true)
+    (λ c. width_run 10 15 1 _ refl c.if-row-lt-ORACLES.false c.if-row-lt-PRICE_ORACLE_1W.true)
+    (λ c. width_run 13 16 1 _ refl c.if-row-lt-PRICE_ORACLE_1W.false c.requires))

@@ -13,8 +13,8 @@ width_spec =
     tie.close
     (tie.spec
     (λ c κs. search rules)
-    (λ c. c.value-width.ensures)
-    (λ c. width_run 1 17 4 _ refl c.before.if1.false c.if2.true)
-    (λ c. width_run 6 21 1 _ refl c.before.if2.false c.if3.true)
-    (λ c. width_run 7 22 1 _ refl c.before.if3.false c.if4.true)
-    (λ c. width_run 1 23 6 _ refl c.if4.false c.before.before.before.before.requires))
+    (λ c. c.value_width.ensures)
+    (λ c. width_run 1 17 4 _ refl c.if-row-lt-INDEXES.false c.if-row-lt-INDEX_MUL.true)
+    (λ c. width_run 6 21 1 _ refl c.if-row-lt-INDEX_MUL.false c.if-row-lt-INDEX_DIV.true)
+    (λ c. width_run 7 22 1 _ refl c.if-row-lt-INDEX_DIV.false c.if-row-lt-BETWEEN.true)
+    (λ c. width_run 1 23 6 _ refl c.if-row-lt-BETWEEN.false c.requires))

@@ -39,11 +39,11 @@ below t = and 1 read-index-kinds.ps (falls 1 read-index-kinds.ps ◌<◌ μ t) r
 abbrev called : ℕ → lts.Claims
 called t = (row-before-reads.Asked, row-before-reads.Learnt, width-reads.Asked, width-reads.Learnt, below t, read-index.Post)
 
-abbrev Inv : lts.invariant-loop
+abbrev Inv : lts.invariant-loop-count
 Inv rows last end₀ count₀ end count = Loop indexes rows last end count
 
-abbrev decreases-loop : lts.decreases-loop
-decreases-loop rows last end₀ count₀ end count = end
+abbrev decreases-loop-count : lts.decreases-loop-count
+decreases-loop-count rows last end₀ count₀ end count = end
 
 abbrev read : List Token → Reading
 read ts = reading_of (idx_from_tokens ts)
@@ -52,37 +52,37 @@ one : (ts : List Token) → indexes 1 ts ≡ read ts
 one ts = sym (reading_on (idx_from_tokens ts))
 
 -- in a turn
-module _ (t : ℕ) (a : lts.At-loop (called t) (pre t) read-index.Post Inv decreases-loop) where
+module _ (t : ℕ) (a : lts.At-loop-count (called t) (pre t) read-index.Post Inv decreases-loop-count) where
   abbrev rows : List ℕ
-  rows = a.before.args.rows.now
+  rows = a.args.rows.now
 
   abbrev last : ℕ
-  last = a.before.args.last
+  last = a.args.last
 
   abbrev fits : Fitting rows last
-  fits = a.before.pre.1
+  fits = a.pre.1
 
-  nothing_read : ((r : Records) → Rows r rows last → Reading.Nothing ≡ indexes a.loop.count (before (token_at r) a.loop.end)) → Answers rows last Reading.Nothing read
-  nothing_read e = loop_nothing indexes rows last read one a.loop.end a.loop.count a.loop.inv e
+  nothing_read : ((r : Records) → Rows r rows last → Reading.Nothing ≡ indexes a.loop-count.count (before (token_at r) a.loop-count.end)) → Answers rows last Reading.Nothing read
+  nothing_read e = loop_nothing indexes rows last read one a.loop-count.end a.loop-count.count a.loop-count.inv e
 
-  next : (end count : ℕ) → end ≤ a.loop.end → count + end ≤ a.loop.count + a.loop.end
-      → ((r : Records) → Rows r rows last → indexes a.loop.count (before (token_at r) a.loop.end) ≡ indexes count (before (token_at r) end)) → Loop indexes rows last end count
-  next end count h room e = loop_turn indexes rows last a.loop.end a.loop.count end count a.loop.inv h room e
+  next : (end count : ℕ) → end ≤ a.loop-count.end → count + end ≤ a.loop-count.count + a.loop-count.end
+      → ((r : Records) → Rows r rows last → indexes a.loop-count.count (before (token_at r) a.loop-count.end) ≡ indexes count (before (token_at r) end)) → Loop indexes rows last end count
+  next end count h room e = loop_turn indexes rows last a.loop-count.end a.loop-count.count end count a.loop-count.inv h room e
 
 -- whose row is told
-module _ (t : ℕ) (c : lts.After-row-before (called t) (pre t) read-index.Post Inv decreases-loop) where
-  abbrev turn : lts.At-loop (called t) (pre t) read-index.Post Inv decreases-loop
+module _ (t : ℕ) (c : lts.After-row_before-row (called t) (pre t) read-index.Post Inv decreases-loop-count) where
+  abbrev turn : lts.At-loop-count (called t) (pre t) read-index.Post Inv decreases-loop-count
   turn = c.before.before
 
-  row_is : (r : Records) → Rows r (rows t turn) (last t turn) → c.row_before.result ≡ row_found (last_row (before (token_at r) turn.loop.end))
-  row_is r p = c.row_before.ensures ∙ p.noted turn.loop.end turn.loop.inv.low
+  row_is : (r : Records) → Rows r (rows t turn) (last t turn) → c.row_before-row.result ≡ row_found (last_row (before (token_at r) turn.loop.end))
+  row_is r p = c.row_before-row.ensures ∙ p.noted turn.loop.end turn.loop.inv.low
 
 -- and whose width is
-module _ (t : ℕ) (w : lts.After-width (called t) (pre t) read-index.Post Inv decreases-loop) where
-  abbrev row : lts.After-row-before (called t) (pre t) read-index.Post Inv decreases-loop
+module _ (t : ℕ) (w : lts.After-width-end (called t) (pre t) read-index.Post Inv decreases-loop-count) where
+  abbrev row : lts.After-row_before-row (called t) (pre t) read-index.Post Inv decreases-loop-count
   row = w.before.before.before
 
-  abbrev at : lts.At-loop (called t) (pre t) read-index.Post Inv decreases-loop
+  abbrev at : lts.At-loop-count (called t) (pre t) read-index.Post Inv decreases-loop-count
   at = turn t row
 
   abbrev some : 0 < at.loop.count
@@ -92,90 +92,90 @@ module _ (t : ℕ) (w : lts.After-width (called t) (pre t) read-index.Post Inv d
   k = row.row_before.result
 
   abbrev start : ℕ
-  start = at.loop.end - w.width.result
+  start = at.loop.end - w.width-end.result
 
-  own : (1 ≤ w.width.result) × (w.width.result ≤ at.loop.end)
-  own = own_tokens (rows t at) (last t at) at.loop.end k _ (fits t at) at.loop.inv.low row.row_before.ensures (omega (arith, w.before.if2.left)) w.width.ensures
+  own : (1 ≤ w.width-end.result) × (w.width-end.result ≤ at.loop.end)
+  own = own_tokens (rows t at) (last t at) at.loop.end k _ (fits t at) at.loop.inv.low row.row_before.ensures (omega (arith, w.if-row-ge-BETWEEN.left)) w.width-end.ensures
 
   found : (r : Records) → Rows r (rows t at) (last t at) → At (token_at r) at.loop.end k start
-  found = noted_at (rows t at) (last t at) at.loop.end k _ (fits t at) at.loop.inv.low row.row_before.ensures (omega (arith, w.before.if2.left)) w.width.ensures
+  found = noted_at (rows t at) (last t at) at.loop.end k _ (fits t at) at.loop.inv.low row.row_before.ensures (omega (arith, w.if-row-ge-BETWEEN.left)) w.width-end.ensures
 
 -- the right operand is read
-module _ (t : ℕ) (c : lts.After-known-told (called t) (pre t) read-index.Post Inv decreases-loop) where
-  abbrev wide : lts.After-width (called t) (pre t) read-index.Post Inv decreases-loop
-  wide = c.before.before.before.before.before.before
+module _ (t : ℕ) (c : lts.In-Read (called t) (pre t) read-index.Post Inv decreases-loop-count) where
+  abbrev wide : lts.After-width-end (called t) (pre t) read-index.Post Inv decreases-loop-count
+  wide = c.before.before.before.before
 
   abbrev middle : ℕ
-  middle = c.before.place.given.0.0
+  middle = c.in-Read.place
 
   low : middle ≤ start t wide
-  low = c.before.before.before.read-index.ensures.within middle c.before.place.given.1
+  low = c.read_index.ensures.within middle c.in-Read.is
 
-returns : (t : ℕ) → lts.Need-returns (called t) (pre t) read-index.Post Inv decreases-loop
+returns : (t : ℕ) → lts.Need-returns-then-row-lt-INDEXES (called t) (pre t) read-index.Post Inv decreases-loop-count
 returns t c = let b = c.before in
-    nothing_read t (turn t b) λ r p. index-before r _ _ (row_is t b r p) c.if1.true _ b.before.loop-test.true
+    nothing_read t (turn t b) λ r p. index-before r _ _ (row_is t b r p) c.if-row-lt-INDEXES.true _ b.loop-count-test.true
 
-returns-2 : (t : ℕ) → lts.Need-returns-2 (called t) (pre t) read-index.Post Inv decreases-loop
+returns-2 : (t : ℕ) → lts.Need-returns-then-row-ge-BETWEEN (called t) (pre t) read-index.Post Inv decreases-loop-count
 returns-2 t c = let b = c.before.before in
-    nothing_read t (turn t b) λ r p. index_beyond r _ _ (row_is t b r p) c.if2.true _ b.before.loop-test.true
+    nothing_read t (turn t b) λ r p. index_beyond r _ _ (row_is t b r p) c.if-row-ge-BETWEEN.true _ b.loop-count-test.true
 
-again : (t : ℕ) → lts.Need-loop-preserved (called t) (pre t) read-index.Post Inv decreases-loop
+again : (t : ℕ) → lts.Need-loop-count-preserved-then-row-lt-INDEX_OPERATIONS (called t) (pre t) read-index.Post Inv decreases-loop-count
 again t c = let w = c.before in let h = own t w in
     next t (at t w) _ _ (omega (arith, h)) (omega (arith, h, some t w)) λ r p.
-    index_terminal r _ _ _ (found t w r p) w.before.before.if1.false c.if3.true _ (some t w)
+    index_terminal r _ _ _ (found t w r p) w.if-row-lt-INDEXES.false c.if-row-lt-INDEX_OPERATIONS.true _ (some t w)
 
-again-2 : (t : ℕ) → lts.Need-loop-preserved-2 (called t) (pre t) read-index.Post Inv decreases-loop
+again-2 : (t : ℕ) → lts.Need-loop-count-preserved-then-row-lt-INDEX_MUL (called t) (pre t) read-index.Post Inv decreases-loop-count
 again-2 t c = let w = c.before.before in let h = own t w in
     next t (at t w) _ _ (omega (arith, h)) (omega (arith, h)) λ r p.
-    index_plain r _ _ _ (found t w r p) c.before.if3.false c.if4.true _ (some t w)
+    index_plain r _ _ _ (found t w r p) c.if-row-lt-INDEX_OPERATIONS.false c.if-row-lt-INDEX_MUL.true _ (some t w)
 
-right-requires : (t : ℕ) → lts.Need-read-index-requires (called t) (pre t) read-index.Post Inv decreases-loop
+right-requires : (t : ℕ) → lts.Need-read_index-requires (called t) (pre t) read-index.Post Inv decreases-loop-count
 right-requires t c κs = let w = c.before.before in let h = own t w in let l = (at t w).loop.invariant.low in
     (omega (arith, h, l, (at t w).before.requires.0), fitting_fewer (rows t (at t w)) (last t (at t w)) _ (fits t (at t w)) (omega (arith, h, l)))
 
-returns-3 : (t : ℕ) → lts.Need-returns-3 (called t) (pre t) read-index.Post Inv decreases-loop
-returns-3 t c = let right = c.before.before in let w = right.before.before.before in
+returns-3 : (t : ℕ) → lts.Need-returns-in_default (called t) (pre t) read-index.Post Inv decreases-loop-count
+returns-3 t c = let right = c.before in let w = right.before.before.before in
     nothing_read t (at t w) λ r p.
-    converted_none r _ _ _ (found t w r p) right.before.if4.false w.before.if2.false _
-    (right.read-index.ensures.right r (rows-fewer r _ _ _ p (omega (arith, own t w, (at t w).loop.invariant.low)))) c.enum_told.given.1 _ (some t w)
+    converted_none r _ _ _ (found t w r p) right.if-row-lt-INDEX_MUL.false w.if-row-ge-BETWEEN.false _
+    (right.read_index.ensures.right r (rows-fewer r _ _ _ p (omega (arith, own t w, (at t w).loop.invariant.low)))) c.in_default.is _ (some t w)
 
-between-requires : (t : ℕ) → lts.Need-row-before-requires-2 (called t) (pre t) read-index.Post Inv decreases-loop
+between-requires : (t : ℕ) → lts.Need-row_before-requires (called t) (pre t) read-index.Post Inv decreases-loop-count
 between-requires t c κs = let w = wide t c in omega (arith, low t c, (at t w).loop.inv.low, (fits t (at t w)).few)
 
-returns-4 : (t : ℕ) → lts.Need-returns-4 (called t) (pre t) read-index.Post Inv decreases-loop
+returns-4 : (t : ℕ) → lts.Need-returns-then-row_before-ne-BETWEEN (called t) (pre t) read-index.Post Inv decreases-loop-count
 returns-4 t c =
-    let b = c.before in let k = b.before in let w = wide t k in let right = k.before.before.before in
+    let b = c.before in let k = b.before in let w = wide t k in let right = k.before in
     let l = (at t w).loop.inv.low in
     nothing_read t (at t w) λ r p.
-    unconverted r _ _ _ (found t w r p) right.before.if4.false w.before.if2.left _
-    (right.read-index.ensures.right r (rows-fewer r _ _ _ p (omega (arith, own t w, l)))) _ k.before.place.given.1 _
-    (b.row-before2.ensures ∙ p.noted _ (omega (arith, low t k, l))) c.if5.true _ (some t w)
+    unconverted r _ _ _ (found t w r p) right.if-row-lt-INDEX_MUL.false w.if-row-ge-BETWEEN.left _
+    (right.read_index.ensures.right r (rows-fewer r _ _ _ p (omega (arith, own t w, l)))) _ k.in-Read.is _
+    (b.row_before.ensures ∙ p.noted _ (omega (arith, low t k, l))) c.if-row_before-ne-BETWEEN.true _ (some t w)
 
-sub-between : (t : ℕ) → lts.Need-overflow-sub-end-2 (called t) (pre t) read-index.Post Inv decreases-loop
+sub-between : (t : ℕ) → lts.Need-overflow_sub-end-in-loop-count (called t) (pre t) read-index.Post Inv decreases-loop-count
 sub-between t c =
     let b = c.before in let k = b.before in let w = wide t k in
-    between_there (rows t (at t w)) (last t (at t w)) _ _ (fits t (at t w)) (omega (arith, low t k, (at t w).loop.inv.low)) b.row-before2.ensures c.if5.false
+    between_there (rows t (at t w)) (last t (at t w)) _ _ (fits t (at t w)) (omega (arith, low t k, (at t w).loop.inv.low)) b.row_before.ensures c.if-row_before-ne-BETWEEN.false
 
-again-3 : (t : ℕ) → lts.Need-loop-preserved-3 (called t) (pre t) read-index.Post Inv decreases-loop
+again-3 : (t : ℕ) → lts.Need-loop-count-preserved (called t) (pre t) read-index.Post Inv decreases-loop-count
 again-3 t c =
-    let b = c.before in let k = b.before in let w = wide t k in let right = k.before.before.before in
+    let b = c.before in let k = b.before in let w = wide t k in let right = k.before in
     let l = (at t w).loop.inv.low in let h = own t w in let m = low t k in
     let e : middle t k ≤ last t (at t w) = omega (arith, m, l) in
     next t (at t w) _ _ (omega (arith, m, h)) (omega (arith, m, h)) λ r p.
-    converted-left r _ _ _ (found t w r p) right.before.if4.false w.before.if2.left _
-    (right.read-index.ensures.right r (rows-fewer r _ _ _ p (omega (arith, h, l)))) _ k.before.place.given.1 _
-    (b.row-before2.ensures ∙ p.noted _ e) _ (between_at (rows t (at t w)) (last t (at t w)) _ _ (fits t (at t w)) e b.row-before2.ensures c.if5.false r p) _ (some t w)
+    converted-left r _ _ _ (found t w r p) right.if-row-lt-INDEX_MUL.false w.if-row-ge-BETWEEN.left _
+    (right.read_index.ensures.right r (rows-fewer r _ _ _ p (omega (arith, h, l)))) _ k.in-Read.is _
+    (b.row_before.ensures ∙ p.noted _ e) _ (between_at (rows t (at t w)) (last t (at t w)) _ _ (fits t (at t w)) e b.row_before.ensures c.if-row_before-ne-BETWEEN.false r p) _ (some t w)
 
-returns-5 : (t : ℕ) → lts.Need-returns-5 (called t) (pre t) read-index.Post Inv decreases-loop
+returns-5 : (t : ℕ) → lts.Need-returns (called t) (pre t) read-index.Post Inv decreases-loop-count
 returns-5 t c = let a = c.before in
-    loop_done indexes (rows t a) (last t a) read one (λ ts. refl) _ _ a.loop.invariant (omega (arith, c.loop-test.false))
+    loop_done indexes (rows t a) (last t a) read one (λ ts. refl) _ _ a.loop-count.invariant (omega (arith, c.loop-count-test.false))
 
-pub +read-index-spec : {M : Type 1} → statement M
-+read-index-spec = close μ λ t. lts.spec (called t)
+pub read_index_spec : {M : Type 1} → statement M
+read_index_spec = close μ λ t. lts.spec (called t)
     (pre t)
     read-index.Post
     Inv
-    decreases-loop
+    decreases-loop-count
     (λ c. loop_start indexes _ _)
     (λ c κs. let a = c.before in omega (arith, a.loop.invariant.low, (fits t a).few))
     (returns t)

@@ -40,11 +40,11 @@ abbrev called : ℕ → lts.Claims
 called t =
     (row-before-reads.Asked, row-before-reads.Learnt, width-reads.Asked, width-reads.Learnt, read-index-reads.Asked, read-index-reads.Learnt, below t, read-value.Post)
 
-abbrev Inv : lts.invariant-loop
+abbrev Inv : lts.invariant-loop-count
 Inv rows last end₀ count₀ end count = Loop values rows last end count
 
-abbrev decreases-loop : lts.decreases-loop
-decreases-loop rows last end₀ count₀ end count = end
+abbrev decreases-loop-count : lts.decreases-loop-count
+decreases-loop-count rows last end₀ count₀ end count = end
 
 abbrev read : List Token → Reading
 read ts = reading_of (expr_from_tokens ts)
@@ -53,29 +53,29 @@ one : (ts : List Token) → values 1 ts ≡ read ts
 one ts = sym (reading_on (expr_from_tokens ts))
 
 -- in a turn
-module _ (t : ℕ) (a : lts.At-loop (called t) (pre t) read-value.Post Inv decreases-loop) where
+module _ (t : ℕ) (a : lts.At-loop-count (called t) (pre t) read-value.Post Inv decreases-loop-count) where
   abbrev rows : List ℕ
-  rows = a.before.args.rows.now
+  rows = a.args.rows.now
 
   abbrev last : ℕ
-  last = a.before.args.last
+  last = a.args.last
 
   abbrev fits : Fitting rows last
-  fits = a.before.pre.1
+  fits = a.pre.1
 
-  nothing_read : ((r : Records) → Rows r rows last → Reading.Nothing ≡ values a.loop.count (before (token_at r) a.loop.end)) → Answers rows last Reading.Nothing read
-  nothing_read e = loop_nothing values rows last read one a.loop.end a.loop.count a.loop.inv e
+  nothing_read : ((r : Records) → Rows r rows last → Reading.Nothing ≡ values a.loop-count.count (before (token_at r) a.loop-count.end)) → Answers rows last Reading.Nothing read
+  nothing_read e = loop_nothing values rows last read one a.loop-count.end a.loop-count.count a.loop-count.inv e
 
-  next : (end count : ℕ) → end ≤ a.loop.end → count + end ≤ a.loop.count + a.loop.end
-      → ((r : Records) → Rows r rows last → values a.loop.count (before (token_at r) a.loop.end) ≡ values count (before (token_at r) end)) → Loop values rows last end count
-  next end count h room e = loop_turn values rows last a.loop.end a.loop.count end count a.loop.inv h room e
+  next : (end count : ℕ) → end ≤ a.loop-count.end → count + end ≤ a.loop-count.count + a.loop-count.end
+      → ((r : Records) → Rows r rows last → values a.loop-count.count (before (token_at r) a.loop-count.end) ≡ values count (before (token_at r) end)) → Loop values rows last end count
+  next end count h room e = loop_turn values rows last a.loop-count.end a.loop-count.count end count a.loop-count.inv h room e
 
 -- whose row and width are told
-module _ (t : ℕ) (w : lts.After-width (called t) (pre t) read-value.Post Inv decreases-loop) where
-  abbrev row : lts.After-row-before (called t) (pre t) read-value.Post Inv decreases-loop
+module _ (t : ℕ) (w : lts.After-width-end (called t) (pre t) read-value.Post Inv decreases-loop-count) where
+  abbrev row : lts.After-row_before-row (called t) (pre t) read-value.Post Inv decreases-loop-count
   row = w.before.before
 
-  abbrev at : lts.At-loop (called t) (pre t) read-value.Post Inv decreases-loop
+  abbrev at : lts.At-loop-count (called t) (pre t) read-value.Post Inv decreases-loop-count
   at = row.before.before
 
   abbrev some : 0 < at.loop.count
@@ -85,13 +85,13 @@ module _ (t : ℕ) (w : lts.After-width (called t) (pre t) read-value.Post Inv d
   k = row.row_before.result
 
   abbrev start : ℕ
-  start = at.loop.end - w.width.result
+  start = at.loop.end - w.width-end.result
 
-  own : (1 ≤ w.width.result) × (w.width.result ≤ at.loop.end)
-  own = own_tokens (rows t at) (last t at) at.loop.end k _ (fits t at) at.loop.inv.low row.row_before.ensures (omega (arith, w.before.if1.left)) w.width.ensures
+  own : (1 ≤ w.width-end.result) × (w.width-end.result ≤ at.loop.end)
+  own = own_tokens (rows t at) (last t at) at.loop.end k _ (fits t at) at.loop.inv.low row.row_before.ensures (omega (arith, w.if-row-ge-INDEXES.left)) w.width-end.ensures
 
   found : (r : Records) → Rows r (rows t at) (last t at) → At (token_at r) at.loop.end k start
-  found = noted_at (rows t at) (last t at) at.loop.end k _ (fits t at) at.loop.inv.low row.row_before.ensures (omega (arith, w.before.if1.left)) w.width.ensures
+  found = noted_at (rows t at) (last t at) at.loop.end k _ (fits t at) at.loop.inv.low row.row_before.ensures (omega (arith, w.if-row-ge-INDEXES.left)) w.width-end.ensures
 
   operand-fits : Fitting (rows t at) start
   operand-fits = fitting_fewer (rows t at) (last t at) start (fits t at) (omega (arith, own, at.loop.inv.low))
@@ -100,81 +100,81 @@ module _ (t : ℕ) (w : lts.After-width (called t) (pre t) read-value.Post Inv d
   operand_rows r p = rows-fewer r (rows t at) (last t at) start p (omega (arith, own, at.loop.inv.low))
 
 -- an index is read
-module _ (t : ℕ) (c : lts.After-known-told (called t) (pre t) read-value.Post Inv decreases-loop) where
-  abbrev looked : lts.After-width (called t) (pre t) read-value.Post Inv decreases-loop
-  looked = c.before.before.before.before.before.before
+module _ (t : ℕ) (c : lts.In-Read (called t) (pre t) read-value.Post Inv decreases-loop-count) where
+  abbrev looked : lts.After-width-end (called t) (pre t) read-value.Post Inv decreases-loop-count
+  looked = c.before.before.before.before
 
-  index-low : c.before.start.given.0.0 ≤ start t looked
-  index-low = c.before.before.before.read-index.ensures.within _ c.before.start.given.1
+  index-low : c.in-Read.start ≤ start t looked
+  index-low = c.read_index.ensures.within _ c.in-Read.is
 
 -- the right operand is read
-module _ (t : ℕ) (c : lts.After-known-told2 (called t) (pre t) read-value.Post Inv decreases-loop) where
-  abbrev wide : lts.After-width (called t) (pre t) read-value.Post Inv decreases-loop
-  wide = c.before.before.before.before.before.before.before.before
+module _ (t : ℕ) (c : lts.In-Read-read_value (called t) (pre t) read-value.Post Inv decreases-loop-count) where
+  abbrev wide : lts.After-width-end (called t) (pre t) read-value.Post Inv decreases-loop-count
+  wide = c.before.before.before.before.before.before
 
-  low : c.before.middle.given.0.0 ≤ start t wide
-  low = c.before.before.before.read-value.ensures.within _ c.before.middle.given.1
+  low : c.in-Read-read_value.middle ≤ start t wide
+  low = c.read_value.ensures.within _ c.in-Read-read_value.is
 
-returns : (t : ℕ) → lts.Need-returns (called t) (pre t) read-value.Post Inv decreases-loop
+returns : (t : ℕ) → lts.Need-returns-then-row-ge-INDEXES (called t) (pre t) read-value.Post Inv decreases-loop-count
 returns t c = let b = c.before in let a = b.before.before in
-    nothing_read t a λ r p. value_beyond r _ _ (b.row_before.ensures ∙ p.noted a.loop.end a.loop.invariant.low) c.if1.true _ b.before.loop-test.true
+    nothing_read t a λ r p. value_beyond r _ _ (b.row_before-row.ensures ∙ p.noted a.loop-count.end a.loop-count.invariant.low) c.if-row-ge-INDEXES.true _ b.loop-count-test.true
 
-again : (t : ℕ) → lts.Need-loop-preserved (called t) (pre t) read-value.Post Inv decreases-loop
+again : (t : ℕ) → lts.Need-loop-count-preserved-then-row-lt-LOOKUPS (called t) (pre t) read-value.Post Inv decreases-loop-count
 again t c = let w = c.before in let h = own t w in
-    next t (at t w) _ _ (omega (arith, h)) (omega (arith, h, some t w)) λ r p. value-const r _ _ _ (found t w r p) c.if2.true _ (some t w)
+    next t (at t w) _ _ (omega (arith, h)) (omega (arith, h, some t w)) λ r p. value-const r _ _ _ (found t w r p) c.if-row-lt-LOOKUPS.true _ (some t w)
 
-returns-2 : (t : ℕ) → lts.Need-returns-2 (called t) (pre t) read-value.Post Inv decreases-loop
-returns-2 t c = let x = c.before.before in let b = x.before in let w = b.before.before in
+returns-2 : (t : ℕ) → lts.Need-returns-in_default (called t) (pre t) read-value.Post Inv decreases-loop-count
+returns-2 t c = let x = c.before in let b = x.before in let w = b.before.before in
     nothing_read t (at t w) λ r p.
-    lookup_none r _ _ _ (found t w r p) b.before.if2.false b.if3.true _
-    (x.read-index.ensures.right r (operand_rows t w r p)) c.enum_told.given.1 _ (some t w)
+    lookup_none r _ _ _ (found t w r p) b.if-row-lt-LOOKUPS.false b.if-row-lt-UNARIES.true _
+    (x.read_index.ensures.right r (operand_rows t w r p)) c.in_default.is _ (some t w)
 
-again-2 : (t : ℕ) → lts.Need-loop-preserved-2 (called t) (pre t) read-value.Post Inv decreases-loop
-again-2 t c = let x = c.before.before.before in let b = x.before in let w = looked t c in let h = own t w in let m = index-low t c in
+again-2 : (t : ℕ) → lts.Need-loop-count-preserved-then-row-lt-UNARIES (called t) (pre t) read-value.Post Inv decreases-loop-count
+again-2 t c = let x = c.before in let b = x.before in let w = looked t c in let h = own t w in let m = index-low t c in
     next t (at t w) _ _ (omega (arith, h, m)) (omega (arith, h, m, some t w)) λ r p.
-    lookup_read r _ _ _ (found t w r p) b.before.if2.false b.if3.true _
-    (x.read-index.ensures.right r (operand_rows t w r p)) _ c.before.start.given.1 _ (some t w)
+    lookup_read r _ _ _ (found t w r p) b.if-row-lt-LOOKUPS.false b.if-row-lt-UNARIES.true _
+    (x.read_index.ensures.right r (operand_rows t w r p)) _ c.in-Read.is _ (some t w)
 
-again-3 : (t : ℕ) → lts.Need-loop-preserved-3 (called t) (pre t) read-value.Post Inv decreases-loop
+again-3 : (t : ℕ) → lts.Need-loop-count-preserved-then-row-lt-BINARIES (called t) (pre t) read-value.Post Inv decreases-loop-count
 again-3 t c = let w = c.before.before.before in let h = own t w in
-    next t (at t w) _ _ (omega (arith, h)) (omega (arith, h)) λ r p. value_unary r _ _ _ (found t w r p) c.before.if3.false c.if4.true _ (some t w)
+    next t (at t w) _ _ (omega (arith, h)) (omega (arith, h)) λ r p. value_unary r _ _ _ (found t w r p) c.if-row-lt-UNARIES.false c.if-row-lt-BINARIES.true _ (some t w)
 
-right-requires : (t : ℕ) → lts.Need-read-value-requires (called t) (pre t) read-value.Post Inv decreases-loop
+right-requires : (t : ℕ) → lts.Need-read_value-requires (called t) (pre t) read-value.Post Inv decreases-loop-count
 right-requires t c κs = let w = c.before.before.before.before in
     (omega (arith, own t w, (at t w).loop.invariant.low, (at t w).before.requires.0), operand-fits t w)
 
-returns-3 : (t : ℕ) → lts.Need-returns-3 (called t) (pre t) read-value.Post Inv decreases-loop
-returns-3 t c = let x = c.before.before in let b = x.before in let w = b.before.before.before.before in
+returns-3 : (t : ℕ) → lts.Need-returns-in_default-read_value (called t) (pre t) read-value.Post Inv decreases-loop-count
+returns-3 t c = let x = c.before in let b = x.before in let w = b.before.before.before.before in
     nothing_read t (at t w) λ r p.
-    binary_none r _ _ _ (found t w r p) b.before.if4.false (omega (arith, b.if5.true)) _
-    (x.read-value.ensures.right r (operand_rows t w r p)) c.enum-told2.given.1 _ (some t w)
+    binary_none r _ _ _ (found t w r p) b.if-row-lt-BINARIES.false (omega (arith, b.if-row-lt-BIT_OPERATIONS.true)) _
+    (x.read_value.ensures.right r (operand_rows t w r p)) c.in_default-read_value.is _ (some t w)
 
-again-4 : (t : ℕ) → lts.Need-loop-preserved-4 (called t) (pre t) read-value.Post Inv decreases-loop
-again-4 t c = let x = c.before.before.before in let b = x.before in let w = wide t c in let h = own t w in let m = low t c in
+again-4 : (t : ℕ) → lts.Need-loop-count-preserved-then-row-lt-BIT_OPERATIONS (called t) (pre t) read-value.Post Inv decreases-loop-count
+again-4 t c = let x = c.before in let b = x.before in let w = wide t c in let h = own t w in let m = low t c in
     next t (at t w) _ _ (omega (arith, h, m)) (omega (arith, h, m)) λ r p.
-    binary_left r _ _ _ (found t w r p) b.before.if4.false (omega (arith, b.if5.true)) _
-    (x.read-value.ensures.right r (operand_rows t w r p)) _ c.before.middle.given.1 _ (some t w)
+    binary_left r _ _ _ (found t w r p) b.if-row-lt-BINARIES.false (omega (arith, b.if-row-lt-BIT_OPERATIONS.true)) _
+    (x.read_value.ensures.right r (operand_rows t w r p)) _ c.in-Read-read_value.is _ (some t w)
 
-again-5 : (t : ℕ) → lts.Need-loop-preserved-5 (called t) (pre t) read-value.Post Inv decreases-loop
+again-5 : (t : ℕ) → lts.Need-loop-count-preserved-then-row-lt-ORACLES (called t) (pre t) read-value.Post Inv decreases-loop-count
 again-5 t c = let w = c.before.before.before.before.before in let h = own t w in
     next t (at t w) _ _ (omega (arith, h)) (omega (arith, h)) λ r p.
-    value-counted r _ _ _ (found t w r p) (omega (arith, c.before.if5.false)) c.if6.true _ (some t w)
+    value-counted r _ _ _ (found t w r p) (omega (arith, c.if-row-lt-BIT_OPERATIONS.false)) c.if-row-lt-ORACLES.true _ (some t w)
 
-again-6 : (t : ℕ) → lts.Need-loop-preserved-6 (called t) (pre t) read-value.Post Inv decreases-loop
+again-6 : (t : ℕ) → lts.Need-loop-count-preserved (called t) (pre t) read-value.Post Inv decreases-loop-count
 again-6 t c = let w = c.before.before.before.before.before in let h = own t w in
     next t (at t w) _ _ (omega (arith, h)) (omega (arith, h, some t w)) λ r p.
-    value-oracle r _ _ _ (found t w r p) c.if6.false w.before.if1.false _ (some t w)
+    value-oracle r _ _ _ (found t w r p) c.if-row-lt-ORACLES.false w.if-row-ge-INDEXES.false _ (some t w)
 
-returns-4 : (t : ℕ) → lts.Need-returns-4 (called t) (pre t) read-value.Post Inv decreases-loop
+returns-4 : (t : ℕ) → lts.Need-returns (called t) (pre t) read-value.Post Inv decreases-loop-count
 returns-4 t c = let a = c.before in
-    loop_done values (rows t a) (last t a) read one (λ ts. refl) _ _ a.loop.invariant (omega (arith, c.loop-test.false))
+    loop_done values (rows t a) (last t a) read one (λ ts. refl) _ _ a.loop-count.invariant (omega (arith, c.loop-count-test.false))
 
-pub +read-value-spec : {M : Type 1} → statement M
-+read-value-spec = close μ λ t. lts.spec (called t)
+pub read_value_spec : {M : Type 1} → statement M
+read_value_spec = close μ λ t. lts.spec (called t)
     (pre t)
     read-value.Post
     Inv
-    decreases-loop
+    decreases-loop-count
     (λ c. loop_start values _ _)
     (λ c κs. let a = c.before in omega (arith, a.loop.invariant.low, (fits t a).few))
     (returns t)
@@ -183,7 +183,7 @@ pub +read-value-spec : {M : Type 1} → statement M
     (λ c. some t c.before)
     (λ c. omega (arith, own t c.before))
     (again t)
-    (λ c κs. operand-fits t c.before.before)
+    (λ c κs. operand-fits t c.before)
     (λ c. search rules)
     (λ c. search rules)
     (returns-2 t)

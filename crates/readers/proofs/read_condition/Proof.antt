@@ -18,15 +18,15 @@ rows s = s.args.rows.now
 abbrev size : tie.Start → ℕ
 size s = s.args.size
 
-returns : tie.Need-returns
-returns c r p = let b = c.before in condition-before r _ _ (b.row_before.ensures ∙ p.noted _ (omega arith)) c.if1.true
+returns : tie.Need-returns-then-row-lt-COMPARISONS
+returns c r p = let b = c.before in condition-before r _ _ (b.row_before-row.ensures ∙ p.noted _ (omega arith)) c.if-row-lt-COMPARISONS.true
 
-returns-2 : tie.Need-returns-2
-returns-2 c r p = let b = c.before.before in condition_beyond r _ _ (b.row_before.ensures ∙ p.noted _ (omega arith)) c.if2.true
+returns-2 : tie.Need-returns-then-row-ge-ROWS
+returns-2 c r p = let b = c.before.before in condition_beyond r _ _ (b.row_before-row.ensures ∙ p.noted _ (omega arith)) c.if-row-ge-ROWS.true
 
 -- a row is found, and its width is known
 module _ (c : tie.After-width) where
-  abbrev row : tie.After-row-before
+  abbrev row : tie.After-row_before-row
   row = c.before.before.before
 
   abbrev begin : tie.Start
@@ -36,10 +36,10 @@ module _ (c : tie.After-width) where
   start = size begin - c.width.result
 
   own : c.width.result ≤ size begin
-  own = (own_tokens (rows begin) (size begin) (size begin) _ _ begin.pre (omega arith) row.row_before.ensures c.before.if2.false c.width.ensures).1
+  own = (own_tokens (rows begin) (size begin) (size begin) _ _ begin.pre (omega arith) row.row_before-row.ensures c.if-row-ge-ROWS.false c.width.ensures).1
 
-  found : (r : Records) → Rows r (rows begin) (size begin) → At (token_at r) (size begin) row.row_before.result start
-  found = noted_at (rows begin) (size begin) (size begin) _ _ begin.pre (omega arith) row.row_before.ensures c.before.if2.false c.width.ensures
+  found : (r : Records) → Rows r (rows begin) (size begin) → At (token_at r) (size begin) row.row_before-row.result start
+  found = noted_at (rows begin) (size begin) (size begin) _ _ begin.pre (omega arith) row.row_before-row.ensures c.if-row-ge-ROWS.false c.width.ensures
 
   operand : (n : ℕ) → n ≤ start → Fitting (rows begin) n
   operand n h = fitting_fewer (rows begin) (size begin) n begin.pre (omega arith)
@@ -47,25 +47,25 @@ module _ (c : tie.After-width) where
   operand_rows : (n : ℕ) → n ≤ start → (r : Records) → Rows r (rows begin) (size begin) → Rows r (rows begin) n
   operand_rows n h r p = rows-fewer r (rows begin) (size begin) n p (omega arith)
 
-right-low : (c : tie.After-known-told) → let w = c.before.before.before.before in c.before.right.given.0.0 ≤ start w
-right-low c = c.before.before.before.read-value.ensures.within _ c.before.right.given.1
+right-low : (c : tie.In-Read) → let w = c.before.before in c.in-Read.right ≤ start w
+right-low c = c.read_value.ensures.within _ c.in-Read.is
 
-returns-3 : tie.Need-returns-3
+returns-3 : tie.Need-returns-in_default
 returns-3 c r p =
-    let x = c.before.before in
+    let x = c.before in
     let w = x.before in
-    compared_none r _ _ _ (found w r p) w.before.before.if1.false _ (x.read-value.ensures.right r (operand_rows w _ (omega arith) r p)) c.enum_told.given.1
+    compared_none r _ _ _ (found w r p) w.if-row-lt-COMPARISONS.false _ (x.read_value.ensures.right r (operand_rows w _ (omega arith) r p)) c.in_default.is
 
-returns-4 : tie.Need-returns-4
+returns-4 : tie.Need-returns
 returns-4 c r p =
     let k = c.before in
-    let x = k.before.before.before in
+    let x = k.before in
     let w = x.before in
-    compared-left r _ _ _ (found w r p) w.before.before.if1.false _ (x.read-value.ensures.right r (operand_rows w _ (omega arith) r p))
-    _ k.before.right.given.1 _ (c.read-value2.ensures.right r (operand_rows w _ (right-low k) r p))
+    compared-left r _ _ _ (found w r p) w.if-row-lt-COMPARISONS.false _ (x.read_value.ensures.right r (operand_rows w _ (omega arith) r p))
+    _ k.in-Read.is _ (c.read_value-2.ensures.right r (operand_rows w _ (right-low k) r p))
 
-pub read-condition-spec : {M : Type 1} → statement M
-read-condition-spec =
+pub read_condition_spec : {M : Type 1} → statement M
+read_condition_spec =
     tie.close
     (tie.spec
     (λ c κs. search rules)
@@ -78,5 +78,5 @@ read-condition-spec =
     (λ c. search rules)
     returns-3
     (λ c. search rules)
-    (λ c κs. operand c.before.before.before.before _ (right-low c))
+    (λ c κs. operand c.before.before _ (right-low c))
     returns-4)

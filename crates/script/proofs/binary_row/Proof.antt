@@ -4,9 +4,9 @@ use Rattle.script.specs.Script.{number_width, opcodes, push_int, script}
 use Rattle.script.proofs.binary_row.Statement.{statement}
 use Rattle.script.proofs.binary_row.Tie as tie
 
-pub binary-row-spec : {M : Type 1} → statement M
+pub binary_row_spec : {M : Type 1} → statement M
 unfolding script opcodes push_int number_width
-binary-row-spec =
+binary_row_spec =
     tie.close
     (tie.spec
     (λ c. search rules)
@@ -25,11 +25,11 @@ binary-row-spec =
     (λ c κs. search rules)
     (λ c. search rules)
     (λ c κs. search rules)
-    (λ c. rw c.before.enum_told.given.1 c.verified.ensures)
-    (λ c. rw c.before.enum-told2.given.1 c.verified2.ensures)
-    (λ c. rw c.before.enum-told3.given.1 c.verified3.ensures)
-    (λ c. rw c.before.enum-told4.given.1 c.verified-then.ensures)
-    (λ c. rw c.before.enum-told5.given.1 c.verified-then2.ensures)
-    (λ c. rw c.before.enum-told6.given.1 c.opcode.ensures)
-    (λ c. rw c.before.enum-told7.given.1 c.opcode2.ensures)
-    (λ c. rw c.before.enum-told8.given.1 c.opcode3.ensures))
+    (λ c. rw c.in-Add.is c.verified.ensures)
+    (λ c. rw c.in-Sub.is c.verified-in-Sub.ensures)
+    (λ c. rw c.in-Mul.is c.verified-in-Mul.ensures)
+    (λ c. rw c.in-Div.is c.verified_then.ensures)
+    (λ c. rw c.in-Mod.is c.verified_then-in-Mod.ensures)
+    (λ c. rw c.in-BitAnd.is c.opcode.ensures)
+    (λ c. rw c.in-BitOr.is c.opcode-in-BitOr.ensures)
+    (λ c. rw c.in-Xor.is c.opcode-in-Xor.ensures))

@@ -6,9 +6,9 @@ use Rattle.script.specs.Script.{number_width, opcodes, push_int, script}
 use Rattle.script.proofs.index_row.Statement.{statement}
 use Rattle.script.proofs.index_row.Tie as tie
 
-pub index-row-spec : {M : Type 1} → statement M
+pub index_row_spec : {M : Type 1} → statement M
 unfolding script opcodes push_int number_width
-index-row-spec =
+index_row_spec =
     tie.close
     (tie.spec
     (λ c. search rules)
@@ -17,7 +17,7 @@ index-row-spec =
     (λ c κs. search rules)
     (λ c. search rules)
     (λ c. search rules)
-    (λ c. rw c.before.enum_told.given.1 c.opcode.ensures)
-    (λ c. rw c.before.enum-told2.given.1 c.opcode2.ensures)
-    (λ c. rw c.enum-told3.given.1 (record { is = refl; fits = omega arith; room = refl }))
-    (λ c. rw c.enum-told4.given.1 (record { is = refl; fits = omega arith; room = refl })))
+    (λ c. rw c.in-Add.is c.opcode.ensures)
+    (λ c. rw c.in-Sub.is c.opcode-in-Sub.ensures)
+    (λ c. rw c.in-Mul.is (record { is = refl; fits = omega arith; room = refl }))
+    (λ c. rw c.in-Div.is (record { is = refl; fits = omega arith; room = refl })))

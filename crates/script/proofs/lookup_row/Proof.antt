@@ -6,9 +6,9 @@ use Rattle.script.specs.Script.{number_width, opcodes, push_int, script}
 use Rattle.script.proofs.lookup_row.Statement.{statement}
 use Rattle.script.proofs.lookup_row.Tie as tie
 
-pub lookup-row-spec : {M : Type 1} → statement M
+pub lookup_row_spec : {M : Type 1} → statement M
 unfolding script opcodes push_int number_width
-lookup-row-spec =
+lookup_row_spec =
     tie.close
     (tie.spec
     (λ c. search rules)
@@ -17,7 +17,7 @@ lookup-row-spec =
     (λ c κs. search rules)
     (λ c. search rules)
     (λ c. search rules)
-    (λ c. rw c.before.enum_told.given.1 c.verified.ensures)
-    (λ c. rw c.before.enum-told2.given.1 c.verified2.ensures)
-    (λ c. rw c.enum-told3.given.1 (record { is = refl; fits = omega arith; room = refl }))
-    (λ c. rw c.enum-told4.given.1 (record { is = refl; fits = omega arith; room = refl })))
+    (λ c. rw c.in-Input.is c.verified.ensures)
+    (λ c. rw c.in-Output.is c.verified-in-Output.ensures)
+    (λ c. rw c.in-InputIssue.is (record { is = refl; fits = omega arith; room = refl }))
+    (λ c. rw c.in-InputReIssue.is (record { is = refl; fits = omega arith; room = refl })))

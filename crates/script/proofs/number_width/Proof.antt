@@ -5,13 +5,13 @@ use Rattle.script.proofs.Numbers.{by_width}
 use Rattle.script.proofs.number_width.Statement.{statement}
 use Rattle.script.proofs.number_width.Tie as tie
 
-pub number-width-spec : {M : Type 1} → statement M
-number-width-spec =
+pub number_width_spec : {M : Type 1} → statement M
+number_width_spec =
     tie.close
     (tie.spec
-    (λ c. (by_width (λ w. 0 ≡ w) c.before.args.n (λ e. omega arith) (λ l h. omega arith) (λ l h. omega arith) (λ l h. omega arith) (λ l h. omega arith) (λ l. omega arith), omega arith))
-    (λ c. (by_width (λ w. 1 ≡ w) c.before.before.args.n (λ e. omega arith) (λ l h. omega arith) (λ l h. omega arith) (λ l h. omega arith) (λ l h. omega arith) (λ l. omega arith), omega arith))
-    (λ c. (by_width (λ w. 2 ≡ w) c.before.before.before.args.n (λ e. omega arith) (λ l h. omega arith) (λ l h. omega arith) (λ l h. omega arith) (λ l h. omega arith) (λ l. omega arith), omega arith))
-    (λ c. (by_width (λ w. 3 ≡ w) c.before.before.before.before.args.n (λ e. omega arith) (λ l h. omega arith) (λ l h. omega arith) (λ l h. omega arith) (λ l h. omega arith) (λ l. omega arith), omega arith))
-    (λ c. (by_width (λ w. 4 ≡ w) c.before.before.before.before.before.args.n (λ e. omega arith) (λ l h. omega arith) (λ l h. omega arith) (λ l h. omega arith) (λ l h. omega arith) (λ l. omega arith), omega arith))
-    (λ c. (by_width (λ w. 5 ≡ w) c.before.before.before.before.before.args.n (λ e. omega arith) (λ l h. omega arith) (λ l h. omega arith) (λ l h. omega arith) (λ l h. omega arith) (λ l. omega arith), omega arith)))
+    (λ c. (by_width (λ w. 0 ≡ w) c.args.n (λ e. omega arith) (λ l h. omega arith) (λ l h. omega arith) (λ l h. omega arith) (λ l h. omega arith) (λ l. omega arith), omega arith))
+    (λ c. (by_width (λ w. 1 ≡ w) c.args.n (λ e. omega arith) (λ l h. omega arith) (λ l h. omega arith) (λ l h. omega arith) (λ l h. omega arith) (λ l. omega arith), omega arith))
+    (λ c. (by_width (λ w. 2 ≡ w) c.args.n (λ e. omega arith) (λ l h. omega arith) (λ l h. omega arith) (λ l h. omega arith) (λ l h. omega arith) (λ l. omega arith), omega arith))
+    (λ c. (by_width (λ w. 3 ≡ w) c.args.n (λ e. omega arith) (λ l h. omega arith) (λ l h. omega arith) (λ l h. omega arith) (λ l h. omega arith) (λ l. omega arith), omega arith))
+    (λ c. (by_width (λ w. 4 ≡ w) c.args.n (λ e. omega arith) (λ l h. omega arith) (λ l h. omega arith) (λ l h. omega arith) (λ l h. omega arith) (λ l. omega arith), omega arith))
+    (λ c. (by_width (λ w. 5 ≡ w) c.args.n (λ e. omega arith) (λ l h. omega arith) (λ l h. omega arith) (λ l h. omega arith) (λ l h. omega arith) (λ l. omega arith), omega arith)))

@@ -17,8 +17,8 @@ returns c =
     let bytes = take 32 (drop s.args.at s.args.from.now) in
     front_push 32 32 bytes s.args.out.now _ (part_length s.args.from.now s.args.at 32 s.requires.0) (omega (arith, s.requires.1)) w.copy.ensures
 
-pub push-bytes32-spec : {M : Type 1} → statement M
-push-bytes32-spec =
+pub push_bytes32_spec : {M : Type 1} → statement M
+push_bytes32_spec =
     tie.close
     (tie.spec
     (λ c. search rules)

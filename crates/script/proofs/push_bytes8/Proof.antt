@@ -14,10 +14,10 @@ unfolding script
 returns c =
     let w = c.before.before in
     let s = w.before.before.before in
-    front_push 8 8 (little_endian 8 s.args.bits) s.args.out.now _ (length-little_endian 8 s.args.bits) (omega (arith, s.requires)) w.write-le64.ensures
+    front_push 8 8 (little_endian 8 s.args.bits) s.args.out.now _ (length-little_endian 8 s.args.bits) (omega (arith, s.requires)) w.write_le64.ensures
 
-pub push-bytes8-spec : {M : Type 1} → statement M
-push-bytes8-spec =
+pub push_bytes8_spec : {M : Type 1} → statement M
+push_bytes8_spec =
     tie.close
     (tie.spec
     (λ c. search rules)

@@ -5,10 +5,10 @@ use borrow.Author.Tests.{le-leb}
 use Rattle.script_writer.proofs.has_room.Statement.{statement}
 use Rattle.script_writer.proofs.has_room.Tie as tie
 
-pub has-room-spec : {M : Type 1} → statement M
-has-room-spec =
+pub has_room_spec : {M : Type 1} → statement M
+has_room_spec =
     tie.close
     (tie.spec
-    (λ c. let s = c.before.before.before in sym (le-leb _ s.args.room (omega (arith, s.requires.1, c.if1.true))))
-    (λ c κs. c.before.before.before.requires)
-    (λ c. rw (← c.script-length.ensures)))
+    (λ c. let s = c.before.before.before in sym (le-leb _ s.args.room (omega (arith, s.requires.1, c.if-room-ge-MAX_SCRIPT.true))))
+    (λ c κs. c.requires)
+    (λ c. rw (← c.script_length.ensures)))

@@ -18,15 +18,15 @@ use Rattle.script_writer.proofs.next_length.Statement.{statement}
 use Rattle.script_writer.proofs.next_length.Tie as tie
 
 -- the piece is the command's
-module _ (q : tie.After-piece-length) where
+module _ (q : tie.After-piece_length-own) where
   abbrev s : tie.Start
   s = q.before.before.before.before
 
   abbrev code : List ℕ
   code = s.args.code.now
 
-  piece : PieceOf (command_at code s.args.at) code (s.args.at + 1) q.before.piece_of.result
-  piece = rw q.before.before.next.ensures at q.before.piece_of.ensures
+  piece : PieceOf (command_at code s.args.at) code (s.args.at + 1) q.piece_of.result
+  piece = rw q.next-here.ensures at q.piece_of.ensures
 
 marked-one : (b : Bool) → bool_byte b ≡ length (converted_bytes b)
 marked-one true = refl
@@ -42,18 +42,18 @@ returns q =
     let p = piece q in
     let c = command_at (code q) b.args.at in
     let own = script ((command_row c).tokens (operand_bytes c (code q) (b.args.at + 1))) in
-    let counted : length own ≡ q.piece-length.result = ap length (sym p.bytes) ∙ piece_long _ (code q) _ p.whole ∙ sym q.piece-length.ensures in (
+    let counted : length own ≡ q.piece_length-own.result = ap length (sym p.bytes) ∙ piece_long _ (code q) _ p.whole ∙ sym q.piece_length-own.ensures in (
       rw (command-bytes c (operand_bytes c (code q) (b.args.at + 1)) b.args.marked, length-append own (converted_bytes b.args.marked), counted, marked-one b.args.marked),
-      ap (λ (k : Cursor). k.next) q.before.before.next.ensures,
+      ap (λ (k : Cursor). k.next) q.next-here.ensures,
     )
 
-pub next-length-spec : {M : Type 1} → statement M
-next-length-spec =
+pub next_length_spec : {M : Type 1} → statement M
+next_length_spec =
     tie.close
     (tie.spec
-    (λ c κs. c.before.requires)
-    (λ c κs. rw c.next.ensures c.before.before.requires)
+    (λ c κs. c.requires)
+    (λ c κs. rw c.next-here.ensures c.requires)
     (λ c κs. search rules)
     (λ c. tt)
-    (λ c. omega (arith, piece_few _ _ _ (piece c).whole, c.piece-length.ensures, marked-few (s c).args.marked))
+    (λ c. omega (arith, piece_few _ _ _ (piece c).whole, c.piece_length-own.ensures, marked-few (s c).args.marked))
     returns)

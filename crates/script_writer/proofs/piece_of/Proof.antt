@@ -5,16 +5,16 @@ use Rattle.script_writer.proofs.Pieces.{constant-piece, oracle-piece, oracle-w-p
 use Rattle.script_writer.proofs.piece_of.Statement.{statement}
 use Rattle.script_writer.proofs.piece_of.Tie as tie
 
-pub piece-of-spec : {M : Type 1} → statement M
+pub piece_of_spec : {M : Type 1} → statement M
 unfolding script opcodes
-piece-of-spec =
+piece_of_spec =
     tie.close
     (tie.spec
     (λ c. search rules)
     (λ c κs. search rules)
     (λ c κs. search rules)
     (λ c. search rules)
-    (λ c κs. rw c.enum-told2.given.1 at c.before.before.before.requires)
+    (λ c κs. rw c.in-IdxConst.is at c.requires)
     (λ c κs. search rules)
     (λ c κs. search rules)
     (λ c. search rules)
@@ -44,15 +44,15 @@ piece-of-spec =
     (λ c. search rules)
     (λ c κs. search rules)
     (λ c κs. search rules)
-    (λ c. let s = c.before.before.before.before.before in rw (c.in_row.ensures, c.before.before.enum_told.given.1) (row-piece _ s.args.code.now s.args.at (rw c.before.before.enum_told.given.1 at s.requires) _ c.before.no_row.ensures))
-    (λ c. let s = c.before.before.before.before.before.before in rw (c.in-row2.ensures, c.before.before.before.enum-told2.given.1) (row-piece _ s.args.code.now s.args.at (rw c.before.before.before.enum-told2.given.1 at s.requires) _ (rw c.before.before.read-le64.ensures.value at c.before.int-row.ensures)))
-    (λ c. let s = c.before.before.before.before.before in rw (c.in-row3.ensures, c.before.before.enum-told3.given.1) (row-piece _ s.args.code.now s.args.at (rw c.before.before.enum-told3.given.1 at s.requires) _ c.before.opcode.ensures))
-    (λ c. let s = c.before.before.before.before.before.before in rw (c.in-row4.ensures, c.before.before.before.command.given.1) (row-piece _ s.args.code.now s.args.at (rw c.before.before.before.command.given.1 at s.requires) _ c.before.index-row.ensures))
-    (λ c. let s = c.before.before.before.before in rw c.before.enum-told4.given.1 (constant-piece s.args.code.now s.args.at _ (rw c.before.enum-told4.given.1 at s.requires) c.without-row.ensures))
-    (λ c. let s = c.before.before.before.before.before in rw (c.in-row5.ensures, c.before.before.enum-told5.given.1) (row-piece _ s.args.code.now s.args.at (rw c.before.before.enum-told5.given.1 at s.requires) _ c.before.current-row.ensures))
-    (λ c. let s = c.before.before.before.before.before.before in rw (c.in-row6.ensures, c.before.before.before.command2.given.1) (row-piece _ s.args.code.now s.args.at (rw c.before.before.before.command2.given.1 at s.requires) _ c.before.lookup-row.ensures))
-    (λ c. let s = c.before.before.before.before.before.before in rw (c.in-row7.ensures, c.before.before.before.command3.given.1) (row-piece _ s.args.code.now s.args.at (rw c.before.before.before.command3.given.1 at s.requires) _ c.before.binary-row.ensures))
-    (λ c. let s = c.before.before.before.before.before.before in rw (c.in-row8.ensures, c.before.before.before.command4.given.1) (row-piece _ s.args.code.now s.args.at (rw c.before.before.before.command4.given.1 at s.requires) _ c.before.unary-row.ensures))
-    (λ c. let s = c.before.before.before.before in rw c.before.enum-told6.given.1 (oracle-piece s.args.code.now s.args.at _ (rw c.before.enum-told6.given.1 at s.requires) c.without-row2.ensures))
-    (λ c. let s = c.before.before.before.before in rw c.before.enum-told7.given.1 (oracle-w-piece s.args.code.now s.args.at _ (rw c.before.enum-told7.given.1 at s.requires) c.without-row3.ensures))
-    (λ c. let s = c.before.before.before.before.before.before in rw (c.in-row9.ensures, c.before.before.before.command5.given.1) (row-piece _ s.args.code.now s.args.at (rw c.before.before.before.command5.given.1 at s.requires) _ c.before.compare-row.ensures)))
+    (λ c. let s = c.before.before.before.before in rw (c.in_row.ensures, c.in-Unknown.is) (row-piece _ s.args.code.now s.args.at (rw c.in-Unknown.is at s.requires) _ c.no_row.ensures))
+    (λ c. let s = c.before.before.before.before.before in rw (c.in_row-in-IdxConst.ensures, c.in-IdxConst.is) (row-piece _ s.args.code.now s.args.at (rw c.in-IdxConst.is at s.requires) _ (rw c.read_le64.ensures.value at c.int_row.ensures)))
+    (λ c. let s = c.before.before.before.before in rw (c.in_row-in-CurrIdx.ensures, c.in-CurrIdx.is) (row-piece _ s.args.code.now s.args.at (rw c.in-CurrIdx.is at s.requires) _ c.opcode.ensures))
+    (λ c. let s = c.before.before.before.before in rw (c.in_row-in-Index.ensures, c.in-Index.is) (row-piece _ s.args.code.now s.args.at (rw c.in-Index.is at s.requires) _ c.index_row.ensures))
+    (λ c. let s = c.before.before.before in rw c.in-Const.is (constant-piece s.args.code.now s.args.at _ (rw c.in-Const.is at s.requires) c.without_row.ensures))
+    (λ c. let s = c.before.before.before.before in rw (c.in_row-in-CurrInputIdx.ensures, c.in-CurrInputIdx.is) (row-piece _ s.args.code.now s.args.at (rw c.in-CurrInputIdx.is at s.requires) _ c.current_row.ensures))
+    (λ c. let s = c.before.before.before.before in rw (c.in_row-in-Lookup.ensures, c.in-Lookup.is) (row-piece _ s.args.code.now s.args.at (rw c.in-Lookup.is at s.requires) _ c.lookup_row.ensures))
+    (λ c. let s = c.before.before.before.before in rw (c.in_row-in-Binary.ensures, c.in-Binary.is) (row-piece _ s.args.code.now s.args.at (rw c.in-Binary.is at s.requires) _ c.binary_row.ensures))
+    (λ c. let s = c.before.before.before.before in rw (c.in_row-in-Unary.ensures, c.in-Unary.is) (row-piece _ s.args.code.now s.args.at (rw c.in-Unary.is at s.requires) _ c.unary_row.ensures))
+    (λ c. let s = c.before.before.before in rw c.in-PriceOracle1.is (oracle-piece s.args.code.now s.args.at _ (rw c.in-PriceOracle1.is at s.requires) c.without_row-in-PriceOracle1.ensures))
+    (λ c. let s = c.before.before.before in rw c.in-PriceOracle1W.is (oracle-w-piece s.args.code.now s.args.at _ (rw c.in-PriceOracle1W.is at s.requires) c.without_row-in-PriceOracle1W.ensures))
+    (λ c. let s = c.before.before.before.before in rw (c.in_row-in-Compare.ensures, c.in-Compare.is) (row-piece _ s.args.code.now s.args.at (rw c.in-Compare.is at s.requires) _ c.compare_row.ensures)))

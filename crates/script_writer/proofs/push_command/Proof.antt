@@ -19,7 +19,7 @@ use Rattle.script_writer.proofs.push_command.Statement.{statement}
 use Rattle.script_writer.proofs.push_command.Tie as tie
 
 -- the piece is the command's
-module _ (q : tie.After-piece-of) where
+module _ (q : tie.After-piece_of) where
   abbrev s : tie.Start
   s = q.before.before.before.before
 
@@ -36,7 +36,7 @@ module _ (q : tie.After-piece-of) where
   own = script ((command_row command).tokens (operand_bytes command code (at + 1)))
 
   piece : PieceOf command code (at + 1) q.piece_of.result
-  piece = rw q.before.next.ensures at q.piece_of.ensures
+  piece = rw q.next-here.ensures at q.piece_of.ensures
 
   own-long : length own ≡ piece_length q.piece_of.result
   own-long = ap length (sym piece.bytes) ∙ piece_long _ code (at + 1) piece.whole
@@ -49,38 +49,38 @@ module _ (q : tie.After-piece-of) where
   room = rw (all-bytes, length-append own (converted_bytes s.args.marked)) at s.pre.1
 
 -- they are written
-module _ (w : tie.After-push-piece) where
-  abbrev q : tie.After-piece-of
+module _ (w : tie.After-push_piece-own) where
+  abbrev q : tie.After-piece_of
   q = w.before.before
 
-  written : Front w.push-piece.last.1.1.1.0 (s q).args.out.now (own q) w.push-piece.result
-  written = rw (q.before.next.ensures, (piece q).bytes) at w.push-piece.ensures
+  written : Front w.push_piece-own.last.1.1.1.0 (s q).args.out.now (own q) w.push_piece-own.result
+  written = rw (q.next-here.ensures, (piece q).bytes) at w.push_piece-own.ensures
 
-  long : length w.push-piece.last.1.1.1.0 ≡ length (s q).args.out.now
+  long : length w.push_piece-own.last.1.1.1.0 ≡ length (s q).args.out.now
   long = front_length written (omega (arith, written.long, room q))
 
-returns : tie.Need-returns
+returns : tie.Need-returns-then-marked
 returns c =
     let w = c.before.before.before in
-    let m = c.if1.true in (
+    let m = c.if-marked.true in (
       rw (all-bytes (q w) ∙ with_converted (own (q w)) _ m)
           (front-set 0xe0 (written w) (omega (arith, (written w).long, room (q w), one_converted (own (q w)) _ m))),
-      ap (λ (k : Cursor). k.next) (q w).before.next.ensures,
+      ap (λ (k : Cursor). k.next) (q w).next-here.ensures,
     )
 
-returns-2 : tie.Need-returns-2
+returns-2 : tie.Need-returns
 returns-2 c =
     let w = c.before.before.before in
-    (rw (all-bytes (q w) ∙ without_converted (own (q w)) _ c.if1.false) (written w), ap (λ (k : Cursor). k.next) (q w).before.next.ensures)
+    (rw (all-bytes (q w) ∙ without_converted (own (q w)) _ c.if-marked.false) (written w), ap (λ (k : Cursor). k.next) (q w).next-here.ensures)
 
-pub push-command-spec : {M : Type 1} → statement M
-push-command-spec =
+pub push_command_spec : {M : Type 1} → statement M
+push_command_spec =
     tie.close
     (tie.spec
-    (λ c κs. c.before.before.requires.0)
-    (λ c κs. rw c.next.ensures c.before.before.before.requires.0)
-    (λ c κs. let q = c.before in (rw q.before.next.ensures (piece q).whole, omega (arith, own-long q, room q)))
-    (λ c. let w = c.before.before.before in omega (arith, long w, (written w).long, room (q w), one_converted (own (q w)) _ c.if1.true))
+    (λ c κs. c.requires.0)
+    (λ c κs. rw c.next-here.ensures c.requires.0)
+    (λ c κs. let q = c.before in (rw q.next-here.ensures (piece q).whole, omega (arith, own-long q, room q)))
+    (λ c. let w = c.before.before.before in omega (arith, long w, (written w).long, room (q w), one_converted (own (q w)) _ c.if-marked.true))
     (λ c. let w = c.before.before.before in omega (arith, (written w).long, own-long (q w), piece_few _ _ _ (piece (q w)).whole))
     (λ c. let w = c.before.before.before in rw length-set (long w))
     returns

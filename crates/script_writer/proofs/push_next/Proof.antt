@@ -17,7 +17,7 @@ use Rattle.script_writer.proofs.push_next.Statement.{statement}
 use Rattle.script_writer.proofs.push_next.Tie as tie
 
 -- one opcode
-module _ (t : tie.Then2) where
+module _ (t : tie.Then-opcode-ne0) where
   abbrev s : tie.Start
   s = t.before.before.before.before.before.before
 
@@ -27,28 +27,28 @@ module _ (t : tie.Then2) where
   abbrev operands : List ℕ
   operands = operand_bytes command s.args.code.now (s.args.at + 1)
 
-  single : ((command_row command).width ≡ 0) × ((n : List ℕ) → script ((command_row command).tokens n) ≡ t.before.single-opcode.result ∷ [])
-  single = t.before.single-opcode.ensures (omega (arith, t.if2.taken))
+  single : ((command_row command).width ≡ 0) × ((n : List ℕ) → script ((command_row command).tokens n) ≡ t.single_opcode-opcode.result ∷ [])
+  single = t.single_opcode-opcode.ensures (omega (arith, t.if-opcode-ne0.taken))
 
-  bytes : script (tokens_of command operands s.args.marked) ≡ t.before.single-opcode.result ∷ []
+  bytes : script (tokens_of command operands s.args.marked) ≡ t.single_opcode-opcode.result ∷ []
   bytes =
       command-bytes command operands s.args.marked
-      ∙ without_converted (script ((command_row command).tokens operands)) s.args.marked (not-true _ t.before.before.before.if1.taken)
+      ∙ without_converted (script ((command_row command).tokens operands)) s.args.marked (not-true _ t.if-not-marked.taken)
       ∙ single.1 operands
 
   room : 1 ≤ length s.args.out.now
   room = rw bytes at s.pre.1
 
-pub push-next-spec : {M : Type 1} → statement M
-push-next-spec =
+pub push_next_spec : {M : Type 1} → statement M
+push_next_spec =
     tie.close
     (tie.spec
-    (λ c. omega (arith, c.before.before.before.before.requires.0))
+    (λ c. omega (arith, c.requires.0))
     (λ c κs. search rules)
     (λ c. omega (arith, room c))
-    (λ c. omega (arith, (s c).requires.0, (s c).well-formed))
+    (λ c. omega (arith, (s c).requires.0, (s c).well_formed))
     (λ c. rw length-set)
-    (λ c. (rw (bytes c) (front-set c.before.single-opcode.result (front_none (s c).args.out.now) (room c)), omega (arith, (single c).0)))
-    (λ c κs. c.before.before.before.before.requires)
+    (λ c. (rw (bytes c) (front-set c.single_opcode-opcode.result (front_none (s c).args.out.now) (room c)), omega (arith, (single c).0)))
+    (λ c κs. c.requires)
     (λ c. search rules)
-    (λ c. c.before.before.push-command.ensures))
+    (λ c. c.push_command.ensures))

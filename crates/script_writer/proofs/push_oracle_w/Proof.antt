@@ -16,32 +16,32 @@ use Rattle.script_writer.proofs.push_oracle_w.Statement.{statement}
 use Rattle.script_writer.proofs.push_oracle_w.Tie as tie
 
 -- after TOALTSTACK
-module _ (p : tie.After-push-row) where
+module _ (p : tie.After-push_row-n) where
   abbrev s : tie.Start
   s = p.before.before.before.before.before.before
 
   abbrev now₁ : List ℕ
-  now₁ = p.push_row.last.1.0
+  now₁ = p.push_row-n.last.1.0
 
-  one : Front now₁ s.args.out.now (0x6b ∷ []) p.push_row.result
-  one = rw p.before.before.opcode.ensures.is at p.push_row.ensures
+  one : Front now₁ s.args.out.now (0x6b ∷ []) p.push_row-n.result
+  one = rw p.opcode.ensures.is at p.push_row-n.ensures
 
   long₁ : length now₁ ≡ length s.args.out.now
   long₁ = front_length one (omega (arith, one.long, s.pre.1))
 
 -- after the oracle's own
-module _ (q : tie.After-push-oracle) where
-  abbrev p₂ : tie.After-push-row
+module _ (q : tie.After-push_oracle-n) where
+  abbrev p₂ : tie.After-push_row-n
   p₂ = q.before.before.before.before
 
   abbrev s₂ : tie.Start
   s₂ = s p₂
 
   abbrev n₂ : ℕ
-  n₂ = p₂.push_row.result + q.push-oracle.result
+  n₂ = p₂.push_row-n.result + q.push_oracle-n.result
 
   abbrev now₂ : List ℕ
-  now₂ = put_mid p₂.push_row.result (length (now₁ p₂) - p₂.push_row.result) (now₁ p₂) q.push-oracle.last.1.1.0
+  now₂ = put_mid p₂.push_row-n.result (length (now₁ p₂) - p₂.push_row-n.result) (now₁ p₂) q.push_oracle-n.last.1.1.0
 
   abbrev key : List ℕ
   key = take 32 (drop s₂.args.at s₂.args.code.now)
@@ -50,14 +50,14 @@ module _ (q : tie.After-push-oracle) where
   time = bytes_value (take 8 (drop (s₂.args.at + 32) s₂.args.code.now))
 
   two : Front now₂ s₂.args.out.now ((0x6b ∷ []) ++ script (oracle_form key time)) n₂
-  two = front_rest (one p₂) q.push-oracle.ensures
+  two = front_rest (one p₂) q.push_oracle-n.ensures
 
   count₂ : n₂ ≡ 51
   count₂ =
       omega (
         arith,
         (one p₂).long,
-        q.push-oracle.ensures.long,
+        q.push_oracle-n.ensures.long,
         oracle_long key time (part_length s₂.args.code.now s₂.args.at 32 (omega (arith, s₂.pre.0))),
       )
 
@@ -65,26 +65,26 @@ module _ (q : tie.After-push-oracle) where
   long₂ = front_length two (omega (arith, count₂, s₂.pre.1))
 
 -- after all
-module _ (e : tie.After-push-row2) where
-  abbrev q₃ : tie.After-push-oracle
+module _ (e : tie.After-push_row-n-2) where
+  abbrev q₃ : tie.After-push_oracle-n
   q₃ = e.before.before.before.before
 
-  ended : Front e.push-row2.last.1.0 (mid_of (n₂ q₃) (length (now₂ q₃) - n₂ q₃) (now₂ q₃)) (0x6c ∷ 0x7c ∷ []) e.push-row2.result
-  ended = rw (p₂ q₃).before.before.before.two-opcodes.ensures.is at e.push-row2.ensures
+  ended : Front e.push_row-n-2.last.1.0 (mid_of (n₂ q₃) (length (now₂ q₃) - n₂ q₃) (now₂ q₃)) (0x6c ∷ 0x7c ∷ []) e.push_row-n-2.result
+  ended = rw (p₂ q₃).two_opcodes-closing.ensures.is at e.push_row-n-2.ensures
 
   abbrev now₃ : List ℕ
-  now₃ = put_mid (n₂ q₃) (length (now₂ q₃) - n₂ q₃) (now₂ q₃) e.push-row2.last.1.0
+  now₃ = put_mid (n₂ q₃) (length (now₂ q₃) - n₂ q₃) (now₂ q₃) e.push_row-n-2.last.1.0
 
-  three : Front now₃ (s₂ q₃).args.out.now ((0x6b ∷ []) ++ script (oracle_form (key q₃) (time q₃)) ++ (0x6c ∷ 0x7c ∷ [])) (n₂ q₃ + e.push-row2.result)
+  three : Front now₃ (s₂ q₃).args.out.now ((0x6b ∷ []) ++ script (oracle_form (key q₃) (time q₃)) ++ (0x6c ∷ 0x7c ∷ [])) (n₂ q₃ + e.push_row-n-2.result)
   three = front_rest (two q₃) ended
 
-pub push-oracle-w-spec : {M : Type 1} → statement M
-push-oracle-w-spec =
+pub push_oracle_w_spec : {M : Type 1} → statement M
+push_oracle_w_spec =
     tie.close
     (tie.spec
     (λ c κs. search rules)
     (λ c κs. search rules)
-    (λ c κs. row_fits _ _ _ c.before.opcode.ensures (omega (arith, c.before.before.before.before.before.requires.1)))
+    (λ c κs. row_fits _ _ _ c.opcode.ensures (omega (arith, c.requires.1)))
     (λ c. let p = c.before.before in omega (arith, (one p).long, long₁ p, (s p).requires.1))
     (λ c. let p = c.before.before in omega (arith, (one p).long, long₁ p, (s p).requires.1))
     (λ c. let p = c.before.before in omega (arith, (one p).long, long₁ p, (s p).requires.1))
@@ -93,7 +93,7 @@ push-oracle-w-spec =
     (λ c. let q = c.before.before in omega (arith, count₂ q, long₂ q, (s₂ q).requires.1))
     (λ c. let q = c.before.before in omega (arith, count₂ q, long₂ q, (s₂ q).requires.1))
     (λ c. let q = c.before.before in omega (arith, count₂ q, long₂ q, (s₂ q).requires.1))
-    (λ c κs. let q = c.before.before.before in row_fits _ _ _ (p₂ q).before.before.before.two-opcodes.ensures (front-room 2 (two q) (omega (arith, count₂ q, (s₂ q).requires.1))))
+    (λ c κs. let q = c.before.before.before in row_fits _ _ _ (p₂ q).two_opcodes-closing.ensures (front-room 2 (two q) (omega (arith, count₂ q, (s₂ q).requires.1))))
     (λ c. let e = c.before.before in omega (arith, count₂ (q₃ e), (ended e).long))
     (λ c. let e = c.before.before in front_length (three e) (omega (arith, count₂ (q₃ e), (ended e).long, (s₂ (q₃ e)).pre.1)))
     (λ c. let e = c.before.before in rw (← oracle-w-bytes (key (q₃ e)) (time (q₃ e))) (three e)))

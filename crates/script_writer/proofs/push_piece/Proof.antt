@@ -15,38 +15,38 @@ use Rattle.script_writer.proofs.push_piece.Tie as tie
 within : (s : tie.Start) (n : ℕ) → length (piece_at s.args.piece s.args.code.now s.args.at) ≡ n → n ≤ length s.args.out.now
 within s n e = omega (arith, piece_long s.args.piece s.args.code.now s.args.at s.requires.0, s.requires.1)
 
-returns : tie.Need-returns
-returns c = rw c.before.before.before.before.enum_told.given.1 c.before.before.push_row.ensures
+returns : tie.Need-returns-in-Row
+returns c = rw c.enum_told.given.1 c.push_row.ensures
 
-returns-2 : tie.Need-returns-2
+returns-2 : tie.Need-returns-in-Constant
 returns-2 c =
-    rw (c.before.before.before.before.before.enum-told2.given.1, ← c.before.before.before.before.read-le64.ensures.value)
-    c.before.before.push-bytes8.ensures
+    rw (c.in-Constant.is, ← c.read_le64.ensures.value)
+    c.push_bytes8.ensures
 
-returns-3 : tie.Need-returns-3
-returns-3 c = rw (c.before.before.before.before.enum-told3.given.1, key_at_lem _ _, time_at_lem _ _) c.before.before.push-oracle.ensures
+returns-3 : tie.Need-returns-in-Oracle
+returns-3 c = rw (c.in-Oracle.is, key_at_lem _ _, time_at_lem _ _) c.push_oracle.ensures
 
-returns-4 : tie.Need-returns-4
-returns-4 c = rw (c.before.before.before.before.enum-told4.given.1, key_at_lem _ _, time_at_lem _ _) c.before.before.push-oracle-w.ensures
+returns-4 : tie.Need-returns-in-OracleW
+returns-4 c = rw (c.in-OracleW.is, key_at_lem _ _, time_at_lem _ _) c.push_oracle_w.ensures
 
-pub push-piece-spec : {M : Type 1} → statement M
-push-piece-spec =
+pub push_piece_spec : {M : Type 1} → statement M
+push_piece_spec =
     tie.close
     (tie.spec
     (λ c. search rules)
-    (λ c κs. let s = c.before.before.before.before.before in (s.requires.0.fits, s.requires.0.room, rw c.before.enum_told.given.1 at s.requires.1))
+    (λ c κs. let s = c.before.before.before.before in (s.requires.0.fits, s.requires.0.room, rw c.enum_told.given.1 at s.requires.1))
     (λ c. search rules)
-    (λ c κs. rw c.enum-told2.given.1 at c.before.before.before.before.requires.0.inside)
-    (λ c κs. rw c.before.before.enum-told2.given.1 at c.before.before.before.before.before.before.requires.1)
+    (λ c κs. rw c.in-Constant.is at c.requires.0.inside)
+    (λ c κs. rw c.in-Constant.is at c.requires.1)
     (λ c. search rules)
-    (λ c κs. let s = c.before.before.before.before.before in (rw c.before.enum-told3.given.1 at s.requires.0.inside, rw c.before.enum-told3.given.1 at s.requires.1))
+    (λ c κs. let s = c.before.before.before.before in (rw c.in-Oracle.is at s.requires.0.inside, rw c.in-Oracle.is at s.requires.1))
     (λ c. search rules)
-    (λ c κs. let s = c.before.before.before.before.before in (rw c.before.enum-told4.given.1 at s.requires.0.inside, rw c.before.enum-told4.given.1 at s.requires.1))
-    (λ c. front_length (returns c) (within c.before.before.before.before.before.before.before.before _ (returns c).long))
+    (λ c κs. let s = c.before.before.before.before in (rw c.in-OracleW.is at s.requires.0.inside, rw c.in-OracleW.is at s.requires.1))
+    (λ c. front_length (returns c) (within c.before.before.before.before.before.before.before _ (returns c).long))
     returns
-    (λ c. front_length (returns-2 c) (within c.before.before.before.before.before.before.before.before.before _ (returns-2 c).long))
+    (λ c. front_length (returns-2 c) (within c.before.before.before.before.before.before.before.before _ (returns-2 c).long))
     returns-2
-    (λ c. front_length (returns-3 c) (within c.before.before.before.before.before.before.before.before _ (returns-3 c).long))
+    (λ c. front_length (returns-3 c) (within c.before.before.before.before.before.before.before _ (returns-3 c).long))
     returns-3
-    (λ c. front_length (returns-4 c) (within c.before.before.before.before.before.before.before.before _ (returns-4 c).long))
+    (λ c. front_length (returns-4 c) (within c.before.before.before.before.before.before.before _ (returns-4 c).long))
     returns-4)

@@ -12,14 +12,14 @@ use Rattle.script_writer.proofs.Commands.{Counted, Pushed, all_counted, below_al
 use Rattle.script_writer.proofs.push_script.Statement.{statement}
 use Rattle.script_writer.proofs.push_script.Tie as tie
 
-abbrev invariant-loop : tie.invariant-loop
-invariant-loop code marks out₀ at₀ count₀ n₀ out at count n = Pushed code marks out₀ out at count n
+abbrev invariant-loop-at : tie.invariant-loop-at
+invariant-loop-at code marks out₀ at₀ count₀ n₀ out at count n = Pushed code marks out₀ out at count n
 
-abbrev decreases-loop : tie.decreases-loop
-decreases-loop code marks out₀ at₀ count₀ n₀ out at count n = length code - at
+abbrev decreases-loop-at : tie.decreases-loop-at
+decreases-loop-at code marks out₀ at₀ count₀ n₀ out at count n = length code - at
 
-module _ (a : tie.At-loop invariant-loop decreases-loop) where
-  abbrev begin : tie.Start invariant-loop decreases-loop
+module _ (a : tie.At-loop-at invariant-loop-at decreases-loop-at) where
+  abbrev begin : tie.Start invariant-loop-at decreases-loop-at
   begin = a.before.before.before.before
 
   abbrev code : List ℕ
@@ -28,60 +28,60 @@ module _ (a : tie.At-loop invariant-loop decreases-loop) where
   abbrev marks : List Bool
   marks = begin.args.marks.now
 
-  reached : a.loop.n ≤ length begin.args.out.now
-  reached = omega (arith, below_all code marks a.loop.at a.loop.count a.loop.n a.loop.inv.counted, begin.pre.1)
+  reached : a.loop-at.n ≤ length begin.args.out.now
+  reached = omega (arith, below_all code marks a.loop-at.at a.loop-at.count a.loop-at.n a.loop-at.inv.counted, begin.pre.1)
 
-  long : length a.loop.out ≡ length begin.args.out.now
-  long = front_length a.loop.inv.front reached
+  long : length a.loop-at.out ≡ length begin.args.out.now
+  long = front_length a.loop-at.inv.front reached
 
 -- in a turn that is begun
-module _ (t : tie.In-loop invariant-loop decreases-loop) where
-  abbrev a : tie.At-loop invariant-loop decreases-loop
+module _ (t : tie.In-loop-at invariant-loop-at decreases-loop-at) where
+  abbrev a : tie.At-loop-at invariant-loop-at decreases-loop-at
   a = t.before
 
-  abbrev inside : a.loop.at < length (code a)
-  inside = t.loop-test.taken
+  abbrev inside : a.loop-at.at < length (code a)
+  inside = t.loop-at-test.taken
 
-  operands : after (code a) a.loop.at ≤ length (code a)
-  operands = omega (arith, command-operands (code a) (marks a) a.loop.at a.loop.count a.loop.inv.counted.done a.loop.inv.counted.emitting inside)
+  operands : after (code a) a.loop-at.at ≤ length (code a)
+  operands = omega (arith, command-operands (code a) (marks a) a.loop-at.at a.loop-at.count a.loop-at.inv.counted.done a.loop-at.inv.counted.emitting inside)
 
-  marked : a.loop.count < length (marks a)
-  marked = mark-inside (code a) (marks a) a.loop.at a.loop.count a.loop.inv.counted.done a.loop.inv.counted.emitting inside
+  marked : a.loop-at.count < length (marks a)
+  marked = mark-inside (code a) (marks a) a.loop-at.at a.loop-at.count a.loop-at.inv.counted.done a.loop-at.inv.counted.emitting inside
 
   abbrev here : List ℕ
-  here = bytes_here (code a) (marks a) a.loop.at a.loop.count a.loop.n a.loop.inv.counted inside
+  here = bytes_here (code a) (marks a) a.loop-at.at a.loop-at.count a.loop-at.n a.loop-at.inv.counted inside
 
-  counted : Counted (code a) (marks a) (after (code a) a.loop.at) (a.loop.count + 1) (a.loop.n + length here)
-  counted = one_counted (code a) (marks a) a.loop.at a.loop.count a.loop.n a.loop.inv.counted inside (length here) refl
+  counted : Counted (code a) (marks a) (after (code a) a.loop-at.at) (a.loop-at.count + 1) (a.loop-at.n + length here)
+  counted = one_counted (code a) (marks a) a.loop-at.at a.loop-at.count a.loop-at.n a.loop-at.inv.counted inside (length here) refl
 
-  room : a.loop.n + length here ≤ length (begin a).args.out.now
-  room = omega (arith, below_all (code a) (marks a) (after (code a) a.loop.at) (a.loop.count + 1) (a.loop.n + length here) counted, (begin a).pre.1)
+  room : a.loop-at.n + length here ≤ length (begin a).args.out.now
+  room = omega (arith, below_all (code a) (marks a) (after (code a) a.loop-at.at) (a.loop-at.count + 1) (a.loop-at.n + length here) counted, (begin a).pre.1)
 
-loop-again : tie.Need-loop-preserved invariant-loop decreases-loop
+loop-again : tie.Need-loop-at-preserved invariant-loop-at decreases-loop-at
 loop-again c =
     let w = c.before.before.before in
     let t = w.before.before.before in
     let b = a t in
-    let e = w.push-next.ensures in
-    rw e.1 (one_pushed (code b) (marks b) (begin b).args.out.now b.loop.out b.loop.at b.loop.count b.loop.n b.loop.inv (inside t) _ _ e.0)
+    let e = w.push_next-taken.ensures in
+    rw e.1 (one_pushed (code b) (marks b) (begin b).args.out.now b.loop-at.out b.loop-at.at b.loop-at.count b.loop-at.n b.loop-at.inv (inside t) _ _ e.0)
 
-pub push-script-spec : {M : Type 1} → statement M
-push-script-spec =
+pub push_script_spec : {M : Type 1} → statement M
+push_script_spec =
     tie.close
     (tie.spec
-    invariant-loop
-    decreases-loop
+    invariant-loop-at
+    decreases-loop-at
     (λ c. let s = c.before.before.before in none_pushed s.args.code.now s.args.marks.now s.args.out.now s.requires.0)
     (λ c. marked c.before)
     (λ c. let b = a c.before in omega (arith, reached b, long b))
     (λ c. let b = a c.before in omega (arith, reached b, long b))
     (λ c. let b = a c.before in omega (arith, reached b, long b))
-    (λ c κs. let t = c.before.before in (operands t, front-room _ (a t).loop.invariant.front (room t)))
-    (λ c. let w = c.before.before.before in let t = w.before.before.before in omega (arith, room t, w.push-next.ensures.0.long, (begin (a t)).good))
+    (λ c κs. let t = c.before.before in (operands t, front-room _ (a t).loop-at.invariant.front (room t)))
+    (λ c. let w = c.before.before.before in let t = w.before.before.before in omega (arith, room t, w.push_next-taken.ensures.0.long, (begin (a t)).good))
     (λ c. let t = c.before.before.before.before.before.before in omega (arith, marked t, (begin (a t)).good))
-    (λ c. let w = c.before.before.before in let t = w.before.before.before in omega (arith, operands t, inside t, w.push-next.ensures.1))
+    (λ c. let w = c.before.before.before in let t = w.before.before.before in omega (arith, operands t, inside t, w.push_next-taken.ensures.1))
     loop-again
     (λ c. long c.before)
     (λ c.
     let a = c.before in
-    rw (← all_counted (code a) (marks a) a.loop.at a.loop.count a.loop.n a.loop.invariant.counted c.loop-test.false) a.loop.invariant.front))
+    rw (← all_counted (code a) (marks a) a.loop-at.at a.loop-at.count a.loop-at.n a.loop-at.invariant.counted c.loop-at-test.false) a.loop-at.invariant.front))

@@ -11,14 +11,14 @@ use Rattle.script_writer.proofs.Commands.{Counted, all_counted, below_all, bytes
 use Rattle.script_writer.proofs.script_length.Statement.{statement}
 use Rattle.script_writer.proofs.script_length.Tie as tie
 
-abbrev invariant-loop : tie.invariant-loop
-invariant-loop code marks at₀ count₀ n₀ at count n = Counted code marks at count n
+abbrev invariant-loop-at : tie.invariant-loop-at
+invariant-loop-at code marks at₀ count₀ n₀ at count n = Counted code marks at count n
 
-abbrev decreases-loop : tie.decreases-loop
-decreases-loop code marks at₀ count₀ n₀ at count n = length code - at
+abbrev decreases-loop-at : tie.decreases-loop-at
+decreases-loop-at code marks at₀ count₀ n₀ at count n = length code - at
 
-module _ (a : tie.At-loop invariant-loop decreases-loop) where
-  abbrev begin : tie.Start invariant-loop decreases-loop
+module _ (a : tie.At-loop-at invariant-loop-at decreases-loop-at) where
+  abbrev begin : tie.Start invariant-loop-at decreases-loop-at
   begin = a.before.before.before
 
   abbrev code : List ℕ
@@ -28,44 +28,44 @@ module _ (a : tie.At-loop invariant-loop decreases-loop) where
   marks = begin.args.marks.now
 
 -- in a turn that is begun
-module _ (t : tie.In-loop invariant-loop decreases-loop) where
-  abbrev a : tie.At-loop invariant-loop decreases-loop
+module _ (t : tie.In-loop-at invariant-loop-at decreases-loop-at) where
+  abbrev a : tie.At-loop-at invariant-loop-at decreases-loop-at
   a = t.before
 
-  abbrev inside : a.loop.at < length (code a)
-  inside = t.loop-test.taken
+  abbrev inside : a.loop-at.at < length (code a)
+  inside = t.loop-at-test.taken
 
-  operands : after (code a) a.loop.at ≤ length (code a)
-  operands = omega (arith, command-operands (code a) (marks a) a.loop.at a.loop.count a.loop.inv.done a.loop.inv.emitting inside)
+  operands : after (code a) a.loop-at.at ≤ length (code a)
+  operands = omega (arith, command-operands (code a) (marks a) a.loop-at.at a.loop-at.count a.loop-at.inv.done a.loop-at.inv.emitting inside)
 
-  marked : a.loop.count < length (marks a)
-  marked = mark-inside (code a) (marks a) a.loop.at a.loop.count a.loop.inv.done a.loop.inv.emitting inside
+  marked : a.loop-at.count < length (marks a)
+  marked = mark-inside (code a) (marks a) a.loop-at.at a.loop-at.count a.loop-at.inv.done a.loop-at.inv.emitting inside
 
   abbrev here : List ℕ
-  here = bytes_here (code a) (marks a) a.loop.at a.loop.count a.loop.n a.loop.inv inside
+  here = bytes_here (code a) (marks a) a.loop-at.at a.loop-at.count a.loop-at.n a.loop-at.inv inside
 
-  counted : Counted (code a) (marks a) (after (code a) a.loop.at) (a.loop.count + 1) (a.loop.n + length here)
-  counted = one_counted (code a) (marks a) a.loop.at a.loop.count a.loop.n a.loop.inv inside (length here) refl
+  counted : Counted (code a) (marks a) (after (code a) a.loop-at.at) (a.loop-at.count + 1) (a.loop-at.n + length here)
+  counted = one_counted (code a) (marks a) a.loop-at.at a.loop-at.count a.loop-at.n a.loop-at.inv inside (length here) refl
 
-  few : a.loop.n + length here ≤ 5120
-  few = omega (arith, below_all (code a) (marks a) (after (code a) a.loop.at) (a.loop.count + 1) (a.loop.n + length here) counted, (begin a).pre.1)
+  few : a.loop-at.n + length here ≤ 5120
+  few = omega (arith, below_all (code a) (marks a) (after (code a) a.loop-at.at) (a.loop-at.count + 1) (a.loop-at.n + length here) counted, (begin a).pre.1)
 
-loop-again : tie.Need-loop-preserved invariant-loop decreases-loop
-loop-again c = let t = c.before.before.before in let e = c.before.next-length.ensures in rw (e.0, e.1) (counted t)
+loop-again : tie.Need-loop-at-preserved invariant-loop-at decreases-loop-at
+loop-again c = let t = c.before.before.before in let e = c.next_length-taken.ensures in rw (e.0, e.1) (counted t)
 
-pub script-length-spec : {M : Type 1} → statement M
-script-length-spec =
+pub script_length_spec : {M : Type 1} → statement M
+script_length_spec =
     tie.close
     (tie.spec
-    invariant-loop
-    decreases-loop
+    invariant-loop-at
+    decreases-loop-at
     (λ c. let s = c.before.before in none_counted s.args.code.now s.args.marks.now s.requires.0)
     (λ c. marked c.before)
     (λ c κs. operands c.before)
-    (λ c. omega (arith, few c.before.before.before, c.before.next-length.ensures.0))
+    (λ c. omega (arith, few c.before.before.before, c.next_length-taken.ensures.0))
     (λ c. let t = c.before.before.before in omega (arith, marked t, (begin (a t)).good))
-    (λ c. let t = c.before.before.before in omega (arith, operands t, inside t, c.before.next-length.ensures.1))
+    (λ c. let t = c.before.before.before in omega (arith, operands t, inside t, c.next_length-taken.ensures.1))
     loop-again
     (λ c.
     let a = c.before in
-    sym a.loop.invariant.n_is ∙ ap length (all_counted (code a) (marks a) a.loop.at a.loop.count a.loop.n a.loop.invariant c.loop-test.false)))
+    sym a.loop-at.invariant.n_is ∙ ap length (all_counted (code a) (marks a) a.loop-at.at a.loop-at.count a.loop-at.n a.loop-at.invariant c.loop-at-test.false)))

@@ -10,16 +10,16 @@ use Rattle.script_writer.proofs.Answers.{refused-first}
 use Rattle.script_writer.proofs.write_script.Statement.{statement}
 use Rattle.script_writer.proofs.write_script.Tie as tie
 
-write-with-requires : tie.Need-write-with-requires
+write-with-requires : tie.Need-write_with-requires
 write-with-requires c κs =
     let k = c.before.before.before.before in
-    let code = k.before.before.before.before.before.before.args.code.now in
-    let e : examined code ≡ Examined.Passed k.before.s.given.0.0 = sym k.before.before.before.examine.ensures ∙ k.before.s.given.1 in
-    let p : Passed code (λ s. (s.tokens ≡ k.before.s.given.0.0.tokens) × (s.lookups ≡ k.before.s.given.0.0.lookups)) = passed_with code _ e (refl, refl) in
+    let code = k.args.code.now in
+    let e : examined code ≡ Examined.Passed k.in-Passed.s = sym k.examine.ensures ∙ k.in-Passed.is in
+    let p : Passed code (λ s. (s.tokens ≡ k.in-Passed.s.tokens) × (s.lookups ≡ k.in-Passed.s.lookups)) = passed_with code _ e (refl, refl) in
     (told code _ e, arrays_fit 1024 code _ _ p (omega (arith, p.few, p.known.0)), unmarked_array 1024)
 
-pub write-script-spec : {M : Type 1} → statement M
-write-script-spec =
+pub write_script_spec : {M : Type 1} → statement M
+write_script_spec =
     tie.close
     (tie.spec
     (λ c κs. search rules)
@@ -30,7 +30,7 @@ write-script-spec =
     (λ c. search rules)
     write-with-requires
     (λ c.
-    let s = c.before.before.before.before.before.before in
-    refused-first s.args.code.now s.args.out.now _ (told s.args.code.now _ (sym c.before.before.before.examine.ensures ∙ c.before.r.given.1)))
+    let s = c.before.before.before.before in
+    refused-first s.args.code.now s.args.out.now _ (told s.args.code.now _ (sym c.examine.ensures ∙ c.in-Refused.is)))
     (λ c. search rules)
-    (λ c. c.before.before.before.before.write-with.ensures))
+    (λ c. c.write_with.ensures))

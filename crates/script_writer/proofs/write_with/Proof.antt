@@ -18,7 +18,7 @@ use Rattle.script_writer.proofs.write_with.Statement.{statement}
 use Rattle.script_writer.proofs.write_with.Tie as tie
 
 -- the arguments
-module _ (k : tie.After-shared-slice-known) where
+module _ (k : tie.After-shared_slice_known-1) where
   abbrev s : tie.Start
   s = k.before
 
@@ -26,61 +26,61 @@ module _ (k : tie.After-shared-slice-known) where
   code = s.args.code.now
 
   bytes : Bytes code
-  bytes = all_of (λ x. x < 256) code 0 (λ i. (k.shared-slice-known.given i).fits)
+  bytes = all_of (λ x. x < 256) code 0 (λ i. (k.shared_slice_known-1.given i).fits)
 
   passes : checked code ≡ Checked.Passed s.args.tokens s.args.oracles
   passes = s.pre.0
 
 -- once the marks are found: 6 has not fallen
-module _ (u : tie.Else1) where
-  abbrev k : tie.After-shared-slice-known
+module _ (u : tie.Else-not-mark) where
+  abbrev k : tie.After-shared_slice_known-1
   k = u.before.before.before.before.before.before.before.before.before.before.before
 
   abbrev marks : List Bool
-  marks = u.before.before.before.before.before.mark.last.1.1.1.0
+  marks = u.mark.last.1.1.1.0
 
   narrow-told : narrow_code (code k) ≡ true
-  narrow-told = sym u.before.before.before.before.before.mark.ensures.narrow_is ∙ not-false _ u.if1.left
+  narrow-told = sym u.mark.ensures.narrow_is ∙ not-false _ u.if-not-mark.left
 
   marked : marks ≡ marks_of (code k) ++ drop (length (marks_of (code k))) marks
-  marked = u.before.before.before.before.before.mark.ensures.marked (not-false _ u.if1.left)
+  marked = u.mark.ensures.marked (not-false _ u.if-not-mark.left)
 
-returns : tie.Need-returns
+returns : tie.Need-returns-then-not-mark
 returns c =
     let k = c.before.before.before.before.before.before.before.before.before.before.before in
-    let wide = sym c.before.before.before.before.before.mark.ensures.narrow_is ∙ not-true _ c.if1.true in
+    let wide = sym c.mark.ensures.narrow_is ∙ not-true _ c.if-not-mark.true-raw in
     refused-narrow (code k) (bytes k) (s k).args.out.now _ _ (passes k) wide
 
-has-room-requires : tie.Need-has-room-requires
+has-room-requires : tie.Need-has_room-requires
 has-room-requires c κs =
     let u = c.before in
     let b = k u in
     (passed_as (λ s f. omega (arith, f.2)) (s b).pre.1, fits (code b) (bytes b) (s b).args.out.now _ _ (passes b) (narrow-told u) _ _ (marked u))
 
-returns-2 : tie.Need-returns-2
+returns-2 : tie.Need-returns-then-not-has_room
 returns-2 c =
     let u = c.before.before.before in
     let b = k u in
-    let lacking = sym c.before.has_room.ensures ∙ not-true _ c.if2.true in
+    let lacking = sym c.has_room.ensures ∙ not-true _ c.if-not-has_room.true-raw in
     refused-room (code b) (bytes b) (s b).args.out.now _ _ (passes b) (narrow-told u) _ _ (marked u) lacking
 
-push-script-requires : tie.Need-push-script-requires
+push-script-requires : tie.Need-push_script-requires
 push-script-requires c κs =
     let w = c.before.before in
     let u = w.before.before.before in
     let b = k u in
-    (passed_as (λ s f. omega (arith, f.2)) (s b).pre.1, leb-true _ _ (sym w.before.has_room.ensures ∙ not-false _ w.if2.false))
+    (passed_as (λ s f. omega (arith, f.2)) (s b).pre.1, leb-true _ _ (sym w.has_room.ensures ∙ not-false _ w.if2.false))
 
-returns-3 : tie.Need-returns-3
+returns-3 : tie.Need-returns
 returns-3 c =
     let w = c.before.before.before.before.before in
     let u = w.before.before.before in
     let b = k u in
-    let roomy = sym w.before.has_room.ensures ∙ not-false _ w.if2.false in
-    wrote_all (code b) (bytes b) (s b).args.out.now _ _ (passes b) (narrow-told u) _ _ (marked u) roomy _ _ c.before.before.push-script.ensures
+    let roomy = sym w.has_room.ensures ∙ not-false _ w.if2.false in
+    wrote_all (code b) (bytes b) (s b).args.out.now _ _ (passes b) (narrow-told u) _ _ (marked u) roomy _ _ c.push_script.ensures
 
-pub write-with-spec : {M : Type 1} → statement M
-write-with-spec =
+pub write_with_spec : {M : Type 1} → statement M
+write_with_spec =
     tie.close
     (tie.spec
     (λ c κs. search rules)

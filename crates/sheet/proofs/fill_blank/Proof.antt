@@ -9,28 +9,28 @@ use Rattle.sheet.proofs.Columns.{front-blank}
 use Rattle.sheet.proofs.fill_blank.Statement.{statement}
 use Rattle.sheet.proofs.fill_blank.Tie as tie
 
-abbrev invariant-loop : tie.invariant-loop
-invariant-loop out₀ i₀ out i = (i ≤ length out₀) × Front out out₀ (replicate i blank) i
+abbrev invariant-loop-i : tie.invariant-loop-i
+invariant-loop-i out₀ i₀ out i = (i ≤ length out₀) × Front out out₀ (replicate i blank) i
 
-abbrev decreases-loop : tie.decreases-loop
-decreases-loop out₀ i₀ out i = length out - i
+abbrev decreases-loop-i : tie.decreases-loop-i
+decreases-loop-i out₀ i₀ out i = length out - i
 
-long : (l : tie.At-loop invariant-loop decreases-loop) → length l.loop.out ≡ length l.before.args.out.now
-long l = front_length l.loop.invariant.1 l.loop.invariant.0
+long : (l : tie.At-loop-i invariant-loop-i decreases-loop-i) → length l.loop-i.out ≡ length l.args.out.now
+long l = front_length l.loop-i.invariant.1 l.loop-i.invariant.0
 
-pub fill-blank-spec : {M : Type 1} → statement M
-fill-blank-spec =
+pub fill_blank_spec : {M : Type 1} → statement M
+fill_blank_spec =
     tie.close
     (tie.spec
-    invariant-loop
-    decreases-loop
+    invariant-loop-i
+    decreases-loop-i
     (λ c. (omega arith, front_none _))
-    (λ c. omega (arith, c.loop-test.true))
-    (λ c. omega (arith, c.loop-test.true))
-    (λ c. rw length-set (omega (arith, c.loop-test.true)))
-    (λ c. let i = c.loop-test.true in (omega (arith, i, long c.before), front-blank c.before.loop.invariant.1 (omega (arith, i, long c.before))))
+    (λ c. omega (arith, c.loop-i-test.true))
+    (λ c. omega (arith, c.loop-i-test.true))
+    (λ c. rw length-set (omega (arith, c.loop-i-test.true)))
+    (λ c. let i = c.loop-i-test.true in (omega (arith, i, long c.before), front-blank c.loop-i.invariant.1 (omega (arith, i, long c.before))))
     (λ c. long c.before)
     (λ c.
     let a = c.before in
-    let l : a.loop.i ≡ length a.before.args.out.now = omega (arith, a.loop.invariant.0, c.loop-test.false, long a) in
-    front_whole a.loop.invariant.1 (omega arith) ∙ ap (λ (n : ℕ). replicate n blank) l))
+    let l : a.loop-i.i ≡ length a.args.out.now = omega (arith, a.loop-i.invariant.0, c.loop-i-test.false, long a) in
+    front_whole a.loop-i.invariant.1 (omega arith) ∙ ap (λ (n : ℕ). replicate n blank) l))

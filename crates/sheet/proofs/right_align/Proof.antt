@@ -4,8 +4,8 @@ use Rattle.sheet.proofs.Columns.{aligned}
 use Rattle.sheet.proofs.right_align.Statement.{statement}
 use Rattle.sheet.proofs.right_align.Tie as tie
 
-pub right-align-spec : {M : Type 1} → statement M
-right-align-spec =
+pub right_align_spec : {M : Type 1} → statement M
+right_align_spec =
     tie.close
     (tie.spec
     (λ c κs. search rules)
@@ -14,4 +14,4 @@ right-align-spec =
     (λ c. search rules)
     (λ c κs. search rules)
     (λ c. search rules)
-    (λ c. aligned c.before.before.before.before.before.before.write-field.ensures c.before.before.fill-blank.ensures))
+    (λ c. aligned c.write_field-start.ensures c.fill_blank.ensures))

@@ -28,34 +28,34 @@ module _ (s : tie.Start) where
   long = s.pre.0
 
 -- after the first column and its blank
-module _ (t : tie.After-right-align) where
+module _ (t : tie.After-right_align) where
   abbrev s₁ : tie.Start
   s₁ = t.before.before.before
 
   abbrev first : List ℕ
-  first = set (put_mid 0 5 (xs s₁) t.right-align.last.1.0) 5 blank
+  first = set (put_mid 0 5 (xs s₁) t.right_align.last.1.0) 5 blank
 
   one : Front first (xs s₁) (offset s₁) 6
   one =
       let l = long s₁ in
-      front-set blank (front_column 5 (decimal s₁.args.offset) (front_none (xs s₁)) (omega arith) s₁.pre.1 t.right-align.ensures) (omega arith)
+      front-set blank (front_column 5 (decimal s₁.args.offset) (front_none (xs s₁)) (omega arith) s₁.pre.1 t.right_align.ensures) (omega arith)
 
   one-long : length first ≡ 30
   one-long = let l = long s₁ in front_length one (omega arith) ∙ l
 
 -- after the second
-module _ (u : tie.After-right-align2) where
-  abbrev t₂ : tie.After-right-align
+module _ (u : tie.After-right_align-2) where
+  abbrev t₂ : tie.After-right_align
   t₂ = u.before.before.before.before
 
   abbrev s₂ : tie.Start
   s₂ = s₁ t₂
 
-  two-column : Front (put_mid 6 2 (first t₂) u.right-align2.last.1.0) (xs s₂) (offset s₂ ++ right_aligned 2 (decimal s₂.args.command)) 8
-  two-column = let l = long s₂ in front_column 2 (decimal s₂.args.command) (one t₂) (omega arith) s₂.pre.2 u.right-align2.ensures
+  two-column : Front (put_mid 6 2 (first t₂) u.right_align-2.last.1.0) (xs s₂) (offset s₂ ++ right_aligned 2 (decimal s₂.args.command)) 8
+  two-column = let l = long s₂ in front_column 2 (decimal s₂.args.command) (one t₂) (omega arith) s₂.pre.2 u.right_align-2.ensures
 
   abbrev second : List ℕ
-  second = set (put_mid 6 2 (first t₂) u.right-align2.last.1.0) 8 blank
+  second = set (put_mid 6 2 (first t₂) u.right_align-2.last.1.0) 8 blank
 
   two : Front second (xs s₂) (command s₂) 9
   two = let l = long s₂ in front-set blank two-column (omega arith)
@@ -64,25 +64,25 @@ module _ (u : tie.After-right-align2) where
   two-long = let l = long s₂ in front_length two (omega arith) ∙ l
 
 -- after the third
-module _ (v : tie.After-right-align3) where
-  abbrev u₃ : tie.After-right-align2
+module _ (v : tie.After-right_align-3) where
+  abbrev u₃ : tie.After-right_align-2
   u₃ = v.before.before.before.before
 
   abbrev s₃ : tie.Start
   s₃ = s₂ u₃
 
-  three : Front (put_mid 9 20 (second u₃) v.right-align3.last.1.0) (xs s₃) (command s₃ ++ right_aligned 20 (text_of s₃.args.operand)) 29
-  three = let l = long s₃ in front_column 20 (text_of s₃.args.operand) (two u₃) (omega arith) s₃.pre.3 v.right-align3.ensures
+  three : Front (put_mid 9 20 (second u₃) v.right_align-3.last.1.0) (xs s₃) (command s₃ ++ right_aligned 20 (text_of s₃.args.operand)) 29
+  three = let l = long s₃ in front_column 20 (text_of s₃.args.operand) (two u₃) (omega arith) s₃.pre.3 v.right_align-3.ensures
 
-  three-long : length (put_mid 9 20 (second u₃) v.right-align3.last.1.0) ≡ 30
+  three-long : length (put_mid 9 20 (second u₃) v.right_align-3.last.1.0) ≡ 30
   three-long = let l = long s₃ in front_length three (omega arith) ∙ l
 
 returns : tie.Need-returns
 unfolding columns
 returns c = let v = c.before.before in let l = long (s₃ v) in front_whole (front-set line_feed (three v) (omega arith)) (omega arith)
 
-pub write-columns-spec : {M : Type 1} → statement M
-write-columns-spec =
+pub write_columns_spec : {M : Type 1} → statement M
+write_columns_spec =
     tie.close
     (tie.spec
     (λ c. search rules)

@@ -15,7 +15,7 @@ use Rattle.sheet.proofs.Wide.{command_few, offset_few}
 use Rattle.sheet.proofs.write_line.Statement.{statement}
 use Rattle.sheet.proofs.write_line.Tie as tie
 
-module _ (n : tie.After-next) where
+module _ (n : tie.After-next-cursor) where
   abbrev s : tie.Start
   s = n.before.before.before
 
@@ -23,24 +23,24 @@ module _ (n : tie.After-next) where
   code = s.args.code.now
 
 -- the operand's text
-told : (o : tie.After-operand-of) → let n = o.before in text_of o.operand-of.result ≡ operand (command_at (code n) (s n).args.at) (operands_at (code n) (s n).args.at)
-told o = rw (o.before.next.ensures, add-one (s o.before).args.at) at o.operand-of.ensures
+told : (o : tie.After-operand_of-operand) → let n = o.before in text_of o.operand_of-operand.result ≡ operand (command_at (code n) (s n).args.at) (operands_at (code n) (s n).args.at)
+told o = rw (o.next-cursor.ensures, add-one (s o.before).args.at) at o.operand_of-operand.ensures
 
 -- what the columns hold has room in them
-write-columns-requires : tie.Need-write-columns-requires
+write-columns-requires : tie.Need-write_columns-requires
 write-columns-requires c κs =
     let o = c.before.before in
     let s = s o.before in
     let w = s.pre.1 in
-    let bytes = all_of (λ x. x < 256) s.args.code.now 0 (λ i. (c.before.shared-slice-known2.given i).fits) in
+    let bytes = all_of (λ x. x < 256) s.args.code.now 0 (λ i. (c.shared_slice_known-2-1.given i).fits) in
     (s.pre.0, offset_few s.args.at w.near, command_few (get_or s.args.code.now s.args.at 0) w.known, rw (told o) (whole_operand s.args.code.now s.args.at bytes w))
 
-pub write-line-spec : {M : Type 1} → statement M
-write-line-spec =
+pub write_line_spec : {M : Type 1} → statement M
+write_line_spec =
     tie.close
     (tie.spec
-    (λ c κs. c.before.before.requires.1.operands)
-    (λ c κs. rw c.next.ensures (s c).requires.1.operands)
+    (λ c κs. c.requires.1.operands)
+    (λ c κs. rw c.next-cursor.ensures (s c).requires.1.operands)
     (λ c. search rules)
     write-columns-requires
     (λ c. search rules)
@@ -48,6 +48,6 @@ write-line-spec =
     let w = c.before.before in
     let o = w.before.before.before in
     let n = o.before in (
-      ap (λ (c : Cursor). c.next) n.next.ensures,
-      w.write-columns.ensures ∙ ap (λ (t : List ℕ). columns (s n).args.at (get_or (code n) (s n).args.at 0) t ++ line_feed ∷ []) (told o),
+      ap (λ (c : Cursor). c.next) n.next-cursor.ensures,
+      w.write_columns.ensures ∙ ap (λ (t : List ℕ). columns (s n).args.at (get_or (code n) (s n).args.at 0) t ++ line_feed ∷ []) (told o),
     )))

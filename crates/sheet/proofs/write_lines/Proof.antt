@@ -12,14 +12,14 @@ use Rattle.sheet.proofs.Lines.{Progress, all_there, fewer, none_yet, one_more, p
 use Rattle.sheet.proofs.write_lines.Statement.{statement}
 use Rattle.sheet.proofs.write_lines.Tie as tie
 
-abbrev invariant-loop : tie.invariant-loop
-invariant-loop code out₀ at₀ n₀ out at n = (n ≤ length out₀) × Progress code out₀ out at n
+abbrev invariant-loop-at : tie.invariant-loop-at
+invariant-loop-at code out₀ at₀ n₀ out at n = (n ≤ length out₀) × Progress code out₀ out at n
 
-abbrev decreases-loop : tie.decreases-loop
-decreases-loop code out₀ at₀ n₀ out at n = length code - at
+abbrev decreases-loop-at : tie.decreases-loop-at
+decreases-loop-at code out₀ at₀ n₀ out at n = length code - at
 
-module _ (a : tie.At-loop invariant-loop decreases-loop) where
-  abbrev begin : tie.Start invariant-loop decreases-loop
+module _ (a : tie.At-loop-at invariant-loop-at decreases-loop-at) where
+  abbrev begin : tie.Start invariant-loop-at decreases-loop-at
   begin = a.before.before.before
 
   abbrev code : List ℕ
@@ -28,50 +28,50 @@ module _ (a : tie.At-loop invariant-loop decreases-loop) where
   abbrev old : List ℕ
   old = begin.args.out.now
 
-  long : length a.loop.out ≡ length old
-  long = front_length a.loop.inv.1.front a.loop.inv.0
+  long : length a.loop-at.out ≡ length old
+  long = front_length a.loop-at.inv.1.front a.loop-at.inv.0
 
   bytes : Bytes code
-  bytes = all_of (λ x. x < 256) code 0 (λ i. (a.before.before.shared-slice-known.given i).fits)
+  bytes = all_of (λ x. x < 256) code 0 (λ i. (a.shared_slice_known-1.given i).fits)
 
 -- in a turn a line more has room
-room : (t : tie.In-loop invariant-loop decreases-loop) → let l = t.before.loop in l.n + 30 ≤ length (old t.before)
+room : (t : tie.In-loop-at invariant-loop-at decreases-loop-at) → let l = t.loop-at in l.n + 30 ≤ length (old t.before)
 room t =
     let a = t.before in
-    let l = a.loop in
-    omega (arith, fewer (code a) (old a) l.out l.at l.n l.invariant.1 t.loop-test.true, (begin a).requires.2)
+    let l = a.loop-at in
+    omega (arith, fewer (code a) (old a) l.out l.at l.n l.invariant.1 t.loop-at-test.true, (begin a).requires.2)
 
-write-line-requires : tie.Need-write-line-requires invariant-loop decreases-loop
+write-line-requires : tie.Need-write_line-at-requires invariant-loop-at decreases-loop-at
 write-line-requires c κs =
     let t = c.before in
     let a = t.before in
-    let l = a.loop in (
+    let l = a.loop-at in (
       simp (length-take, length-drop) (omega (arith, room t, long a)),
-      progress_whole (code a) (old a) l.out l.at l.n l.invariant.1 t.loop-test.true,
+      progress_whole (code a) (old a) l.out l.at l.n l.invariant.1 t.loop-at-test.true,
     )
 
-loop-again : tie.Need-loop-preserved invariant-loop decreases-loop
+loop-again : tie.Need-loop-at-preserved invariant-loop-at decreases-loop-at
 loop-again c =
     let w = c.before.before in
     let t = w.before.before in
     let a = t.before in
-    let l = a.loop in
-    let e = w.write-line.ensures in
-    (room t, rw e.0 (one_more (code a) (old a) l.out l.at l.n l.invariant.1 t.loop-test.true (bytes a) _ e.1))
+    let l = a.loop-at in
+    let e = w.write_line-at.ensures in
+    (room t, rw e.0 (one_more (code a) (old a) l.out l.at l.n l.invariant.1 t.loop-at-test.true (bytes a) _ e.1))
 
-pub write-lines-spec : {M : Type 1} → statement M
-write-lines-spec =
+pub write_lines_spec : {M : Type 1} → statement M
+write_lines_spec =
     tie.close
     (tie.spec
-    invariant-loop
-    decreases-loop
+    invariant-loop-at
+    decreases-loop-at
     (λ c. let s = c.before.before in (omega arith, none_yet s.args.code.now s.args.out.now s.requires.0 s.requires.1))
     (λ c. omega (arith, room c, (begin c.before).good))
     (λ c. search rules)
     (λ c. omega (arith, room c, long c.before))
     (λ c. omega (arith, room c, long c.before))
     write-line-requires
-    (λ c. let w = c.before.before in omega (arith, w.write-line.ensures.0, w.before.before.loop-test.true))
+    (λ c. let w = c.before.before in omega (arith, w.write_line-at.ensures.0, w.loop-at-test.true))
     loop-again
     (λ c. long c.before)
-    (λ c. let a = c.before in let l = a.loop in all_there (code a) (old a) l.out l.at l.n l.invariant.1 c.loop-test.false))
+    (λ c. let a = c.before in let l = a.loop-at in all_there (code a) (old a) l.out l.at l.n l.invariant.1 c.loop-at-test.false))

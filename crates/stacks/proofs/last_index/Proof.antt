@@ -5,7 +5,7 @@ use Rattle.stacks.proofs.last_index.Statement.{statement}
 use Rattle.stacks.proofs.last_index.Tie as tie
 
 returns : tie.Need-returns
-returns c = let a = c.before.args in rw (one_passed a.idxs.now a.indexes c.before.requires.0 (search rules))
+returns c = let a = c.args in rw (one_passed a.idxs.now a.indexes c.requires.0 (search rules))
 
-pub last-index-spec : {M : Type 1} → statement M
-last-index-spec = tie.close (tie.spec (λ c. search rules) (λ c. search rules) (λ c. search rules) returns)
+pub last_index_spec : {M : Type 1} → statement M
+last_index_spec = tie.close (tie.spec (λ c. search rules) (λ c. search rules) (λ c. search rules) returns)

@@ -5,8 +5,8 @@ use mir.Facts.{to_z-of_z}
 use Rattle.stacks.proofs.push_index.Statement.{statement}
 use Rattle.stacks.proofs.push_index.Tie as tie
 
-pub push-index-spec : {M : Type 1} → statement M
-push-index-spec =
+pub push_index_spec : {M : Type 1} → statement M
+push_index_spec =
     tie.close
     (tie.spec
     (λ c. search rules)
@@ -15,5 +15,5 @@ push-index-spec =
     (λ c. search rules)
     (λ c. search rules)
     (λ c. search rules)
-    (λ c vals. let a = c.before.before.before.args in rw (c.before.s.given.1, to_z-of_z (sfits_of c.known-told.given.0.1), pushed a.idxs.now a.indexes c.before.s.given.0.0 c.before.before.before.requires))
-    (λ c vals. rw c.enum_told.given.1))
+    (λ c vals. let a = c.args in rw (c.in-Value.is, to_z-of_z (sfits_of c.in-Value.known_told-1-own.given.0.1), pushed a.idxs.now a.indexes c.in-Value.z c.requires))
+    (λ c vals. rw c.in-Overflow.is))

@@ -6,11 +6,11 @@ use Rattle.stacks.proofs.step_binary.Tie as tie
 
 returns : tie.Need-returns
 returns c idxs =
-    let a = c.before.before.before.before.before.before.args in
-    rw (two_passed a.vals.now a.values c.before.before.before.before.before.before.requires.0 (search rules) (search rules), ← c.before.before.before.binary.ensures) (c.before.push-value.ensures idxs)
+    let a = c.args in
+    rw (two_passed a.vals.now a.values c.requires.0 (search rules) (search rules), ← c.binary-v.ensures) (c.push_value.ensures idxs)
 
-pub step-binary-spec : {M : Type 1} → statement M
-step-binary-spec =
+pub step_binary_spec : {M : Type 1} → statement M
+step_binary_spec =
     tie.close
     (tie.spec
     (λ c. search rules)

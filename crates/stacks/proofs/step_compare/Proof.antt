@@ -6,11 +6,11 @@ use Rattle.stacks.proofs.step_compare.Tie as tie
 
 returns : tie.Need-returns
 returns c idxs =
-    let a = c.before.before.before.args in
-    rw (two_passed a.vals.now a.values c.before.before.before.requires.0 (search rules) (search rules), ← c.compare.ensures)
+    let a = c.args in
+    rw (two_passed a.vals.now a.values c.requires.0 (search rules) (search rules), ← c.compare.ensures)
 
-pub step-compare-spec : {M : Type 1} → statement M
-step-compare-spec =
+pub step_compare_spec : {M : Type 1} → statement M
+step_compare_spec =
     tie.close
     (tie.spec
     (λ c. search rules)

@@ -6,11 +6,11 @@ use Rattle.stacks.proofs.step_index.Tie as tie
 
 returns : tie.Need-returns
 returns c vals =
-    let a = c.before.before.before.before.before.before.args in
-    rw (two_passed a.idxs.now a.indexes c.before.before.before.before.before.before.requires.0 (search rules) (search rules), ← c.before.before.before.index.ensures) (c.before.push-index.ensures vals)
+    let a = c.args in
+    rw (two_passed a.idxs.now a.indexes c.requires.0 (search rules) (search rules), ← c.index-s.ensures) (c.push_index.ensures vals)
 
-pub step-index-spec : {M : Type 1} → statement M
-step-index-spec =
+pub step_index_spec : {M : Type 1} → statement M
+step_index_spec =
     tie.close
     (tie.spec
     (λ c. search rules)

@@ -6,11 +6,11 @@ use Rattle.stacks.proofs.step_unary.Tie as tie
 
 returns : tie.Need-returns
 returns c idxs =
-    let a = c.before.before.before.before.before.args in
-    rw (one_passed a.vals.now a.values c.before.before.before.before.before.requires.0 (search rules), ← c.before.before.before.unary.ensures) (c.before.push-value.ensures idxs)
+    let a = c.args in
+    rw (one_passed a.vals.now a.values c.requires.0 (search rules), ← c.unary-v.ensures) (c.push_value.ensures idxs)
 
-pub step-unary-spec : {M : Type 1} → statement M
-step-unary-spec =
+pub step_unary_spec : {M : Type 1} → statement M
+step_unary_spec =
     tie.close
     (tie.spec
     (λ c. search rules)

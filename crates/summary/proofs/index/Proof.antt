@@ -12,25 +12,25 @@ use Rattle.summary.proofs.index.Tie as tie
 abbrev own : tie.Start → CommandRow
 own b = counting b.args.width 0 b.args.taken Made.index b.args.tokens [] []
 
-returns : tie.Need-returns
-returns c = let b = c.before.before in short (own b) b.args.length b.args.s c.if1.true
+returns : tie.Need-returns-then-length-s
+returns c = let b = c.before.before in short (own b) b.args.length b.args.s c.if-length-s.true
 
-returns-2 : tie.Need-returns-2
+returns-2 : tie.Need-returns-then-s-taken
 returns-2 c =
     let b = c.before.before.before.before in
-    lacks (own b) b.args.length b.args.s c.before.before.if1.false (enough_lt b.args.taken b.args.s.indexes c.if2.true)
+    lacks (own b) b.args.length b.args.s c.if-length-s.false (enough_lt b.args.taken b.args.s.indexes c.if-s-taken.true)
 
-returns-3 : tie.Need-returns-3
+returns-3 : tie.Need-returns
 returns-3 c =
     let t = c.before.before.before.before.before in
     let b = t.before.before.before.before in
     let s = b.args.s in
-    passes (own b) b.args.length s _ t.before.before.if1.false (enough_ge b.args.taken s.indexes t.if2.false)
+    passes (own b) b.args.length s _ t.if-length-s.false (enough_ge b.args.taken s.indexes t.if-s-taken.false)
     (next_is (own b) b.args.length s refl (omega arith) refl (omega arith) (added s.tokens b.args.tokens) refl refl (omega arith)
     (c.raised.ensures ∙ ap (larger s.most) (omega arith)))
 
-pub index-spec : {M : Type 1} → statement M
-index-spec =
+pub index_spec : {M : Type 1} → statement M
+index_spec =
     tie.close
     (tie.spec
     (λ c. search rules)

@@ -3,13 +3,13 @@ use borrow.Author.Rules.{rules}
 use Rattle.summary.proofs.oracles_of.Statement.{statement}
 use Rattle.summary.proofs.oracles_of.Tie as tie
 
-pub oracles-of-spec : {M : Type 1} → statement M
-oracles-of-spec =
+pub oracles_of_spec : {M : Type 1} → statement M
+oracles_of_spec =
     tie.close
     (tie.spec
     (λ c. search rules)
     (λ c. search rules)
     (λ c. search rules)
-    (λ c. rw c.enum_told.given.1)
-    (λ c. rw c.enum-told2.given.1)
-    (λ c. rw c.enum-told3.given.1))
+    (λ c. rw c.in-PriceOracle1.is)
+    (λ c. rw c.in-PriceOracle1W.is)
+    (λ c. rw c.in-Other.is))

@@ -13,20 +13,20 @@ no_number kind number bits p q = rw (ne_eqb kind 1 p, ne_eqb kind 2 q)
 no_place : (kind place : ℕ) → (kind ≡ 3 → ⊥) → 0 ≡ place_at place kind
 no_place kind place p = rw (ne_eqb kind 3 p)
 
-pub fields-at-spec : {M : Type 1} → statement M
-fields-at-spec =
+pub fields_at_spec : {M : Type 1} → statement M
+fields_at_spec =
     tie.close
     (tie.spec
     (λ c.
-    let k = c.before.args.kind in
-    (no_number k _ _ (λ e. omega (arith, c.if1.true)) (λ e. omega (arith, c.if1.true)), no_place k _ (λ e. omega (arith, c.if1.true))))
-    (λ c. let k = c.before.before.args.kind in (rw (eq-eqb k 1 c.if2.true), no_place k _ (λ e. omega (arith, c.if2.true))))
+    let k = c.args.kind in
+    (no_number k _ _ (λ e. omega (arith, c.if-kind-gt-BYTES32.true)) (λ e. omega (arith, c.if-kind-gt-BYTES32.true)), no_place k _ (λ e. omega (arith, c.if-kind-gt-BYTES32.true))))
+    (λ c. let k = c.args.kind in (rw (eq-eqb k 1 c.if-kind-eq-NUM.true), no_place k _ (λ e. omega (arith, c.if-kind-eq-NUM.true))))
     (λ c.
-    let k = c.before.before.before.args.kind in
-    (rw (ne_eqb k 1 c.before.if2.false, eq-eqb k 2 c.if3.true), no_place k _ (λ e. omega (arith, c.if3.true))))
+    let k = c.args.kind in
+    (rw (ne_eqb k 1 c.if-kind-eq-NUM.false, eq-eqb k 2 c.if-kind-eq-BYTES8.true), no_place k _ (λ e. omega (arith, c.if-kind-eq-BYTES8.true))))
     (λ c.
-    let k = c.before.before.before.before.args.kind in
-    (no_number k _ _ c.before.before.if2.false c.before.if3.false, rw (eq-eqb k 3 c.if4.true)))
+    let k = c.args.kind in
+    (no_number k _ _ c.if-kind-eq-NUM.false c.if-kind-eq-BYTES8.false, rw (eq-eqb k 3 c.if-kind-eq-BYTES32.true)))
     (λ c.
-    let k = c.before.before.before.before.args.kind in
-    (no_number k _ _ c.before.before.if2.false c.before.if3.false, no_place k _ c.if4.false)))
+    let k = c.args.kind in
+    (no_number k _ _ c.if-kind-eq-NUM.false c.if-kind-eq-BYTES8.false, no_place k _ c.if-kind-eq-BYTES32.false)))

@@ -26,23 +26,23 @@ none c = record { plain = λ l. absurd (omega arith); numbered = λ l _. absurd 
 is : (n : ℕ) {b k : ℕ} → b ≡ n → Single (command_of n) k → Single (command_of b) k
 is n e s = rw e s
 
-pub kind-of-spec : {M : Type 1} → statement M
+pub kind_of_spec : {M : Type 1} → statement M
 unfolding command_of
-kind-of-spec =
+kind_of_spec =
     tie.close
     (tie.spec
-    (λ c. is 1 c.match.keys1 (numbered (command_of 1) 1 (omega arith) refl refl (λ n. refl)))
-    (λ c. is 2 c.match.keys2 (plain (command_of 2) 4 (omega arith) refl refl (λ n. refl)))
-    (λ c. is 3 c.match.keys3 (plain (command_of 3) 5 (omega arith) refl refl (λ n. refl)))
-    (λ c. is 4 c.match.keys4 (plain (command_of 4) 6 (omega arith) refl refl (λ n. refl)))
-    (λ c. is 16 c.match.keys5 (numbered (command_of 16) 2 (omega arith) refl refl (λ n. refl)))
-    (λ c. is 27 c.match.keys6 (plain (command_of 27) 18 (omega arith) refl refl (λ n. refl)))
-    (λ c. is 28 c.match.keys7 (plain (command_of 28) 19 (omega arith) refl refl (λ n. refl)))
-    (λ c. is 29 c.match.keys8 (plain (command_of 29) 20 (omega arith) refl refl (λ n. refl)))
-    (λ c. is 30 c.match.keys9 (plain (command_of 30) 21 (omega arith) refl refl (λ n. refl)))
-    (λ c. is 48 c.match.keys10 (plain (command_of 48) 14 (omega arith) refl refl (λ n. refl)))
-    (λ c. is 49 c.match.keys11 (plain (command_of 49) 31 (omega arith) refl refl (λ n. refl)))
-    (λ c. is 50 c.match.keys12 (plain (command_of 50) 30 (omega arith) refl refl (λ n. refl)))
-    (λ c. is 51 c.match.keys13 (plain (command_of 51) 29 (omega arith) refl refl (λ n. refl)))
-    (λ c. is 52 c.match.keys14 (plain (command_of 52) 28 (omega arith) refl refl (λ n. refl)))
+    (λ c. is 1 c.in-1.is (numbered (command_of 1) 1 (omega arith) refl refl (λ n. refl)))
+    (λ c. is 2 c.in-2.is (plain (command_of 2) 4 (omega arith) refl refl (λ n. refl)))
+    (λ c. is 3 c.in-3.is (plain (command_of 3) 5 (omega arith) refl refl (λ n. refl)))
+    (λ c. is 4 c.in-4.is (plain (command_of 4) 6 (omega arith) refl refl (λ n. refl)))
+    (λ c. is 16 c.in-16.is (numbered (command_of 16) 2 (omega arith) refl refl (λ n. refl)))
+    (λ c. is 27 c.in-27.is (plain (command_of 27) 18 (omega arith) refl refl (λ n. refl)))
+    (λ c. is 28 c.in-28.is (plain (command_of 28) 19 (omega arith) refl refl (λ n. refl)))
+    (λ c. is 29 c.in-29.is (plain (command_of 29) 20 (omega arith) refl refl (λ n. refl)))
+    (λ c. is 30 c.in-30.is (plain (command_of 30) 21 (omega arith) refl refl (λ n. refl)))
+    (λ c. is 48 c.in-48.is (plain (command_of 48) 14 (omega arith) refl refl (λ n. refl)))
+    (λ c. is 49 c.in-49.is (plain (command_of 49) 31 (omega arith) refl refl (λ n. refl)))
+    (λ c. is 50 c.in-50.is (plain (command_of 50) 30 (omega arith) refl refl (λ n. refl)))
+    (λ c. is 51 c.in-51.is (plain (command_of 51) 29 (omega arith) refl refl (λ n. refl)))
+    (λ c. is 52 c.in-52.is (plain (command_of 52) 28 (omega arith) refl refl (λ n. refl)))
     (λ c. none _))

@@ -29,42 +29,42 @@ module _ (s : tie.Start) where
   tokens = tokens_of s.args.command operands s.args.marked
 
   abbrev ks : List (List ℕ)
-  ks = keys_at s.args.code.now s.args.positions.now s.args.key-count
+  ks = keys_at s.args.code.now s.args.positions.now s.args.key_count
 
-abbrev begin : tie.After-count-of → tie.Start
+abbrev begin : tie.After-count_of-records → tie.Start
 begin a = a.before.before.before.before.before.before.before.before
 
 -- `records` is the number of its tokens, and there is room for so many
-counted : (a : tie.After-count-of) → a.count_of.result ≡ length (tokens (begin a))
+counted : (a : tie.After-count_of-records) → a.count_of-records.result ≡ length (tokens (begin a))
 counted a =
     let s = begin a in
-    records_are s.args.command s.pre.0.0 (operands s) s.args.marked _ a.before.before.token-row.ensures _ a.count_of.ensures
+    records_are s.args.command s.pre.0.0 (operands s) s.args.marked _ a.token_row-own.ensures _ a.count_of-records.ensures
 
 -- the place is that of the key among its operand bytes
-placed : (p : tie.After-place-of)
-    → let s = begin p.before.before.before in p.place_of.result ≡ place_for s.args.command (operands s) (ks s)
+placed : (p : tie.After-place_of-place)
+    → let s = begin p.before.before.before in p.place_of-place.result ≡ place_for s.args.command (operands s) (ks s)
 placed p =
     let s = begin p.before.before.before in
     let code = s.args.code.now in
-    p.place_of.ensures ∙ ap (λ (w : ℕ). cond (eqb w 40) (32 * index_of (key_at code s.args.at) (ks s)) 0) p.before.width_of_lem.ensures
+    p.place_of-place.ensures ∙ ap (λ (w : ℕ). cond (eqb w 40) (32 * index_of (key_at code s.args.at) (ks s)) 0) p.width_of_lem.ensures
     ∙ sym (key_of (λ k. 32 * index_of k (ks s)) 0 code s.args.at (command_row s.args.command).width)
 
 returns : tie.Need-returns
 returns c =
     let told = c.before.before.before.before.before.before.before.before.before.before.before.before.before.before in
     let s = begin told in
-    let row = c.before.before.before.before.before.before.write-row.ensures in (
+    let row = c.write_row.ensures in (
       counted told,
-      row-leaves s.args.command s.pre.0.0 (operands s) s.args.marked _ told.before.before.token-row.ensures _ told.count_of.ensures _ _ _ (ks s) _ _
-          c.before.before.before.before.before.before.before.before.before.before.before.before.before.Numbers-of.ensures (placed c.before.before.before.before.before.before.before.before.before.before.before) row.0 row.1.0 row.1.1,
+      row-leaves s.args.command s.pre.0.0 (operands s) s.args.marked _ told.token_row-own.ensures _ told.count_of-records.ensures _ _ _ (ks s) _ _
+          c.numbers_of-n.ensures (placed c.before.before.before.before.before.before.before.before.before.before.before) row.0 row.1.0 row.1.1,
     )
 
-pub write-command-spec : {M : Type 1} → statement M
-write-command-spec =
+pub write_command_spec : {M : Type 1} → statement M
+write_command_spec =
     tie.close
     (tie.spec
     (λ c κs. search rules)
-    (λ c κs. let s = c.before.before.before.before.before.before.before in rw c.before.token-row.ensures (row_short s.args.command s.requires.0.0 []))
+    (λ c κs. let s = c.before.before.before.before.before.before.before in rw c.token_row-own.ensures (row_short s.args.command s.requires.0.0 []))
     (λ c κs. (begin c).requires.0.1)
     (λ c κs. search rules)
     (λ c κs. let s = begin c.before.before in (omega (arith, c.width_of_lem.ensures, s.pre.0.1), s.pre.0.2, s.pre.0.3))
@@ -72,8 +72,8 @@ write-command-spec =
     (λ c κs.
     let told = c.before.before.before.before.before.before.before in
     let s = begin told in
-    row_asks s.args.command s.pre.0.0 (operands s) s.args.marked told.before.before.token-row.result told.before.before.token-row.ensures
-    told.count_of.result told.count_of.ensures _ s.pre.1)
+    row_asks s.args.command s.pre.0.0 (operands s) s.args.marked told.token_row-own.result told.token_row-own.ensures
+    told.count_of-records.result told.count_of-records.ensures _ s.pre.1)
     (λ c. search rules)
     (λ c. search rules)
     (λ c. search rules)

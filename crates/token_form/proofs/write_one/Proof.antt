@@ -18,8 +18,8 @@ returns c =
     let a = c.args in
     (front a.kinds.now a.kind c.requires.0, (front a.numbers.now a.number c.requires.1, front a.places.now 0 c.requires.2))
 
-pub write-one-spec : {M : Type 1} → statement M
-write-one-spec =
+pub write_one_spec : {M : Type 1} → statement M
+write_one_spec =
     tie.close
     (tie.spec
     (λ c. search rules)

@@ -17,16 +17,16 @@ use Rattle.token_form.proofs.Storing.{Bounds, Progress, all_done, bounds, lent, 
 use Rattle.token_form.proofs.write_records.Statement.{statement}
 use Rattle.token_form.proofs.write_records.Tie as tie
 
-abbrev invariant-loop : tie.invariant-loop
-invariant-loop code marks positions key-count kinds₀ numbers₀ places₀ at₀ count₀ n₀ kinds numbers places at count n =
+abbrev invariant-loop-at : tie.invariant-loop-at
+invariant-loop-at code marks positions key-count kinds₀ numbers₀ places₀ at₀ count₀ n₀ kinds numbers places at count n =
     Progress code marks (keys_at code positions key-count) (columns_of kinds₀ numbers₀ places₀) (columns_of kinds numbers places) at count n
 
-abbrev decreases-loop : tie.decreases-loop
-decreases-loop code marks positions key-count kinds₀ numbers₀ places₀ at₀ count₀ n₀ kinds numbers places at count n = length code - at
+abbrev decreases-loop-at : tie.decreases-loop-at
+decreases-loop-at code marks positions key-count kinds₀ numbers₀ places₀ at₀ count₀ n₀ kinds numbers places at count n = length code - at
 
 -- in a turn
-module _ (a : tie.At-loop invariant-loop decreases-loop) where
-  abbrev begin : tie.Start invariant-loop decreases-loop
+module _ (a : tie.At-loop-at invariant-loop-at decreases-loop-at) where
+  abbrev begin : tie.Start invariant-loop-at decreases-loop-at
   begin = a.before.before.before.before.before.before.before
 
   abbrev code : List ℕ
@@ -36,26 +36,26 @@ module _ (a : tie.At-loop invariant-loop decreases-loop) where
   marks = begin.args.marks.now
 
   abbrev ks : List (List ℕ)
-  ks = keys_at code begin.args.positions.now begin.args.key-count
+  ks = keys_at code begin.args.positions.now begin.args.key_count
 
   abbrev old : Columns
   old = columns_of begin.args.kinds.now begin.args.numbers.now begin.args.places.now
 
   abbrev now : Columns
-  now = columns_of a.loop.kinds a.loop.numbers a.loop.places
+  now = columns_of a.loop-at.kinds a.loop-at.numbers a.loop-at.places
 
   room : Room (emitted code marks) old
   room = begin.pre.1
 
-  bound : Bounds code marks ks old now a.loop.at a.loop.count a.loop.n a.loop.inv
-  bound = bounds code marks ks old now a.loop.at a.loop.count a.loop.n a.loop.inv room
+  bound : Bounds code marks ks old now a.loop-at.at a.loop-at.count a.loop-at.n a.loop-at.inv
+  bound = bounds code marks ks old now a.loop-at.at a.loop-at.count a.loop-at.n a.loop-at.inv room
 
   -- what is written lies within the columns, which have their lengths still
   record Reached : Type 0 where
-    lengths : Bounds code marks ks old now a.loop.at a.loop.count a.loop.n a.loop.inv
-    kinds : a.loop.n ≤ length a.loop.kinds
-    numbers : a.loop.n ≤ length a.loop.numbers
-    places : a.loop.n ≤ length a.loop.places
+    lengths : Bounds code marks ks old now a.loop-at.at a.loop-at.count a.loop-at.n a.loop-at.inv
+    kinds : a.loop-at.n ≤ length a.loop-at.kinds
+    numbers : a.loop-at.n ≤ length a.loop-at.numbers
+    places : a.loop-at.n ≤ length a.loop-at.places
 
   reached : Reached
   reached =
@@ -67,45 +67,45 @@ module _ (a : tie.At-loop invariant-loop decreases-loop) where
       }
 
 -- in a turn that is begun
-module _ (t : tie.In-loop invariant-loop decreases-loop) where
-  abbrev a : tie.At-loop invariant-loop decreases-loop
+module _ (t : tie.In-loop-at invariant-loop-at decreases-loop-at) where
+  abbrev a : tie.At-loop-at invariant-loop-at decreases-loop-at
   a = t.before
 
-  abbrev inside : a.loop.at < length (code a)
-  inside = t.loop-test.taken
+  abbrev inside : a.loop-at.at < length (code a)
+  inside = t.loop-at-test.taken
 
-  command-told : known (command_at (code a) a.loop.at) ≡ true
-  command-told = command-known (code a) (marks a) a.loop.at a.loop.count a.loop.inv.done a.loop.inv.emitting inside
+  command-told : known (command_at (code a) a.loop-at.at) ≡ true
+  command-told = command-known (code a) (marks a) a.loop-at.at a.loop-at.count a.loop-at.inv.done a.loop-at.inv.emitting inside
 
-  operands : a.loop.at + 1 + (command_row (command_at (code a) a.loop.at)).width ≤ length (code a)
-  operands = command-operands (code a) (marks a) a.loop.at a.loop.count a.loop.inv.done a.loop.inv.emitting inside
+  operands : a.loop-at.at + 1 + (command_row (command_at (code a) a.loop-at.at)).width ≤ length (code a)
+  operands = command-operands (code a) (marks a) a.loop-at.at a.loop-at.count a.loop-at.inv.done a.loop-at.inv.emitting inside
 
-  marked : a.loop.count < length (marks a)
-  marked = mark-inside (code a) (marks a) a.loop.at a.loop.count a.loop.inv.done a.loop.inv.emitting inside
+  marked : a.loop-at.count < length (marks a)
+  marked = mark-inside (code a) (marks a) a.loop-at.at a.loop-at.count a.loop-at.inv.done a.loop-at.inv.emitting inside
 
   abbrev here : List Token
-  here = tokens_here (code a) (marks a) (ks a) (old a) (now a) a.loop.at a.loop.count a.loop.n a.loop.inv inside
+  here = tokens_here (code a) (marks a) (ks a) (old a) (now a) a.loop-at.at a.loop-at.count a.loop-at.n a.loop-at.inv inside
 
-  tokens : a.loop.n + length here ≤ length (old a).kinds
-  tokens = omega (arith, more_tokens (code a) (marks a) (ks a) (old a) (now a) a.loop.at a.loop.count a.loop.n a.loop.inv inside, (room a).kinds)
+  tokens : a.loop-at.n + length here ≤ length (old a).kinds
+  tokens = omega (arith, more_tokens (code a) (marks a) (ks a) (old a) (now a) a.loop-at.at a.loop-at.count a.loop-at.n a.loop-at.inv inside, (room a).kinds)
 
-  room-here : Room here (lent (code a) (marks a) (ks a) (old a) (now a) a.loop.at a.loop.count a.loop.n a.loop.inv inside)
-  room-here = room-left (code a) (marks a) (ks a) (old a) (now a) a.loop.at a.loop.count a.loop.n a.loop.inv inside (room a)
+  room-here : Room here (lent (code a) (marks a) (ks a) (old a) (now a) a.loop-at.at a.loop-at.count a.loop-at.n a.loop-at.inv inside)
+  room-here = room-left (code a) (marks a) (ks a) (old a) (now a) a.loop-at.at a.loop-at.count a.loop-at.n a.loop-at.inv inside (room a)
 
-loop-again : tie.Need-loop-preserved invariant-loop decreases-loop
+loop-again : tie.Need-loop-at-preserved invariant-loop-at decreases-loop-at
 loop-again c =
     let t = c.before.before.before.before.before.before.before.before.before.before.before.before.before.before in
-    let wrote = c.before.before.before.before.before.before.before.before.write-next.ensures in
+    let wrote = c.write_next-taken.ensures in
     rw wrote.0.1
-    (one_more (code (a t)) (marks (a t)) (ks (a t)) (old (a t)) (now (a t)) (a t).loop.at (a t).loop.count (a t).loop.n (a t).loop.invariant (inside t)
+    (one_more (code (a t)) (marks (a t)) (ks (a t)) (old (a t)) (now (a t)) (a t).loop-at.at (a t).loop-at.count (a t).loop-at.n (a t).loop-at.invariant (inside t)
     _ _ wrote.0.0 wrote.1)
 
-pub write-records-spec : {M : Type 1} → statement M
-write-records-spec =
+pub write_records_spec : {M : Type 1} → statement M
+write_records_spec =
     tie.close
     (tie.spec
-    invariant-loop
-    decreases-loop
+    invariant-loop-at
+    decreases-loop-at
     (λ c. let s = c.before.before.before.before.before.before in none_yet s.args.code.now s.args.marks.now _ _ s.requires.0.0)
     (λ c. search rules)
     (λ c. marked c.before.before)
@@ -122,10 +122,10 @@ write-records-spec =
     (λ c. omega (arith, reached c.before.before.before.before.before))
     (λ c. omega (arith, reached c.before.before.before.before.before))
     (λ c κs. let t = c.before.before.before.before.before in let s = begin (a t) in ((command-told t, operands t, s.pre.0.1, s.pre.0.2), room-here t))
-    (λ c. let t = c.before.before.before.before.before.before.before.before.before.before.before.before.before in omega (arith, tokens t, c.before.before.before.before.before.before.before.write-next.ensures.0.0, (begin (a t)).good))
+    (λ c. let t = c.before.before.before.before.before.before.before.before.before.before.before.before.before in omega (arith, tokens t, c.write_next-taken.ensures.0.0, (begin (a t)).good))
     (λ c. let t = c.before.before.before.before.before.before.before.before.before.before.before.before.before in omega (arith, marked t, (begin (a t)).good))
     (λ c. let t = c.before.before.before.before.before.before.before.before.before.before.before.before.before in omega (arith, operands t, (begin (a t)).good))
-    (λ c. let t = c.before.before.before.before.before.before.before.before.before.before.before.before.before.before in omega (arith, operands t, c.before.before.before.before.before.before.before.before.write-next.ensures.0.1, (begin (a t)).good))
+    (λ c. let t = c.before.before.before.before.before.before.before.before.before.before.before.before.before.before in omega (arith, operands t, c.write_next-taken.ensures.0.1, (begin (a t)).good))
     (λ c. let t = c.before.before.before.before.before.before.before.before.before.before.before.before.before.before in omega (arith, operands t))
     loop-again
     (λ c. (bound c.before).kinds)
@@ -133,4 +133,4 @@ write-records-spec =
     (λ c. (bound c.before).places)
     (λ c.
     let a = c.before in
-    all_done (code a) (marks a) (ks a) (old a) (now a) a.loop.at a.loop.count a.loop.n a.loop.invariant c.loop-test.false))
+    all_done (code a) (marks a) (ks a) (old a) (now a) a.loop-at.at a.loop-at.count a.loop-at.n a.loop-at.invariant c.loop-at-test.false))

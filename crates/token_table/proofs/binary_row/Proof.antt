@@ -3,8 +3,8 @@ use borrow.Author.Rules.{rules}
 use Rattle.token_table.proofs.binary_row.Statement.{statement}
 use Rattle.token_table.proofs.binary_row.Tie as tie
 
-pub binary-row-spec : {M : Type 1} → statement M
-binary-row-spec =
+pub binary_row_spec : {M : Type 1} → statement M
+binary_row_spec =
     tie.close
     (tie.spec
     (λ c. search rules)
@@ -23,11 +23,11 @@ binary-row-spec =
     (λ c κs. search rules)
     (λ c. search rules)
     (λ c κs. search rules)
-    (λ c. rw c.before.enum_told.given.1 c.row.ensures)
-    (λ c. rw c.before.enum-told2.given.1 c.row2.ensures)
-    (λ c. rw c.before.enum-told3.given.1 c.row3.ensures)
-    (λ c. rw c.before.enum-told4.given.1 c.row4.ensures)
-    (λ c. rw c.before.enum-told5.given.1 c.row5.ensures)
-    (λ c. rw c.before.enum-told6.given.1 c.row6.ensures)
-    (λ c. rw c.before.enum-told7.given.1 c.row7.ensures)
-    (λ c. rw c.before.enum-told8.given.1 c.row8.ensures))
+    (λ c. rw c.in-Add.is c.row.ensures)
+    (λ c. rw c.in-Sub.is c.row-in-Sub.ensures)
+    (λ c. rw c.in-Mul.is c.row-in-Mul.ensures)
+    (λ c. rw c.in-Div.is c.row-in-Div.ensures)
+    (λ c. rw c.in-Mod.is c.row-in-Mod.ensures)
+    (λ c. rw c.in-BitAnd.is c.row-in-BitAnd.ensures)
+    (λ c. rw c.in-BitOr.is c.row-in-BitOr.ensures)
+    (λ c. rw c.in-Xor.is c.row-in-Xor.ensures))

@@ -3,8 +3,8 @@ use borrow.Author.Rules.{rules}
 use Rattle.token_table.proofs.compare_row.Statement.{statement}
 use Rattle.token_table.proofs.compare_row.Tie as tie
 
-pub compare-row-spec : {M : Type 1} → statement M
-compare-row-spec =
+pub compare_row_spec : {M : Type 1} → statement M
+compare_row_spec =
     tie.close
     (tie.spec
     (λ c. search rules)
@@ -17,8 +17,8 @@ compare-row-spec =
     (λ c κs. search rules)
     (λ c. search rules)
     (λ c κs. search rules)
-    (λ c. rw c.before.enum_told.given.1 c.row.ensures)
-    (λ c. rw c.before.enum-told2.given.1 c.row2.ensures)
-    (λ c. rw c.before.enum-told3.given.1 c.row3.ensures)
-    (λ c. rw c.before.enum-told4.given.1 c.row4.ensures)
-    (λ c. rw c.before.enum-told5.given.1 c.row5.ensures))
+    (λ c. rw c.in-Eq.is c.row.ensures)
+    (λ c. rw c.in-Lt.is c.row-in-Lt.ensures)
+    (λ c. rw c.in-Leq.is c.row-in-Leq.ensures)
+    (λ c. rw c.in-Gt.is c.row-in-Gt.ensures)
+    (λ c. rw c.in-Geq.is c.row-in-Geq.ensures))

@@ -3,8 +3,8 @@ use borrow.Author.Rules.{rules}
 use Rattle.token_table.proofs.index_row.Statement.{statement}
 use Rattle.token_table.proofs.index_row.Tie as tie
 
-pub index-row-spec : {M : Type 1} → statement M
-index-row-spec =
+pub index_row_spec : {M : Type 1} → statement M
+index_row_spec =
     tie.close
     (tie.spec
     (λ c. search rules)
@@ -15,7 +15,7 @@ index-row-spec =
     (λ c κs. search rules)
     (λ c. search rules)
     (λ c κs. search rules)
-    (λ c. rw c.before.enum_told.given.1 c.row.ensures)
-    (λ c. rw c.before.enum-told2.given.1 c.row2.ensures)
-    (λ c. rw c.before.enum-told3.given.1 c.row3.ensures)
-    (λ c. rw c.before.enum-told4.given.1 c.row4.ensures))
+    (λ c. rw c.in-Add.is c.row.ensures)
+    (λ c. rw c.in-Sub.is c.row-in-Sub.ensures)
+    (λ c. rw c.in-Mul.is c.row-in-Mul.ensures)
+    (λ c. rw c.in-Div.is c.row-in-Div.ensures))

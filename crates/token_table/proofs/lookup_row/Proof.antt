@@ -3,8 +3,8 @@ use borrow.Author.Rules.{rules}
 use Rattle.token_table.proofs.lookup_row.Statement.{statement}
 use Rattle.token_table.proofs.lookup_row.Tie as tie
 
-pub lookup-row-spec : {M : Type 1} → statement M
-lookup-row-spec =
+pub lookup_row_spec : {M : Type 1} → statement M
+lookup_row_spec =
     tie.close
     (tie.spec
     (λ c. search rules)
@@ -15,7 +15,7 @@ lookup-row-spec =
     (λ c κs. search rules)
     (λ c. search rules)
     (λ c κs. search rules)
-    (λ c. rw c.before.enum_told.given.1 c.row.ensures)
-    (λ c. rw c.before.enum-told2.given.1 c.row2.ensures)
-    (λ c. rw c.before.enum-told3.given.1 c.row3.ensures)
-    (λ c. rw c.before.enum-told4.given.1 c.row4.ensures))
+    (λ c. rw c.in-Input.is c.row.ensures)
+    (λ c. rw c.in-Output.is c.row-in-Output.ensures)
+    (λ c. rw c.in-InputIssue.is c.row-in-InputIssue.ensures)
+    (λ c. rw c.in-InputReIssue.is c.row-in-InputReIssue.ensures))

@@ -3,8 +3,8 @@ use borrow.Author.Rules.{rules}
 use Rattle.token_table.proofs.token_row.Statement.{statement}
 use Rattle.token_table.proofs.token_row.Tie as tie
 
-pub token-row-spec : {M : Type 1} → statement M
-token-row-spec =
+pub token_row_spec : {M : Type 1} → statement M
+token_row_spec =
     tie.close
     (tie.spec
     (λ c. search rules)
@@ -31,15 +31,15 @@ token-row-spec =
     (λ c κs. search rules)
     (λ c. search rules)
     (λ c κs. search rules)
-    (λ c. rw c.before.enum_told.given.1 c.row.ensures)
-    (λ c. rw c.before.enum-told2.given.1 c.row2.ensures)
-    (λ c. rw c.before.enum-told3.given.1 c.row3.ensures)
-    (λ c. rw c.before.before.command.given.1 c.index-row.ensures)
-    (λ c. rw c.before.enum-told4.given.1 c.row4.ensures)
-    (λ c. rw c.before.enum-told5.given.1 c.row5.ensures)
-    (λ c. rw c.before.before.command2.given.1 c.lookup-row.ensures)
-    (λ c. rw c.before.before.command3.given.1 c.binary-row.ensures)
-    (λ c. rw c.before.before.command4.given.1 c.unary-row.ensures)
-    (λ c. rw c.before.enum-told6.given.1 c.row6.ensures)
-    (λ c. rw c.before.enum-told7.given.1 c.row7.ensures)
-    (λ c. rw c.before.before.command5.given.1 c.compare-row.ensures))
+    (λ c. rw c.in-Unknown.is c.row.ensures)
+    (λ c. rw c.in-IdxConst.is c.row-in-IdxConst.ensures)
+    (λ c. rw c.in-CurrIdx.is c.row-in-CurrIdx.ensures)
+    (λ c. rw c.in-Index.is c.index_row.ensures)
+    (λ c. rw c.in-Const.is c.row-in-Const.ensures)
+    (λ c. rw c.in-CurrInputIdx.is c.row-in-CurrInputIdx.ensures)
+    (λ c. rw c.in-Lookup.is c.lookup_row.ensures)
+    (λ c. rw c.in-Binary.is c.binary_row.ensures)
+    (λ c. rw c.in-Unary.is c.unary_row.ensures)
+    (λ c. rw c.in-PriceOracle1.is c.row-in-PriceOracle1.ensures)
+    (λ c. rw c.in-PriceOracle1W.is c.row-in-PriceOracle1W.ensures)
+    (λ c. rw c.in-Compare.is c.compare_row.ensures))

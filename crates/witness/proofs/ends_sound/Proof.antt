@@ -11,52 +11,52 @@ use Rattle.semantics.specs.Evaluate.{ends_sound}
 use Rattle.witness.proofs.ends_sound.Statement.{statement}
 use Rattle.witness.proofs.ends_sound.Tie as tie
 
-abbrev invariant-loop : tie.invariant-loop
-invariant-loop ends size last₀ i₀ last i = (i ≤ length ends) × (ends_sound last size (drop i ends) ≡ ends_sound 0 size ends)
+abbrev invariant-loop-i : tie.invariant-loop-i
+invariant-loop-i ends size last₀ i₀ last i = (i ≤ length ends) × (ends_sound last size (drop i ends) ≡ ends_sound 0 size ends)
 
-abbrev decreases-loop : tie.decreases-loop
-decreases-loop ends size last₀ i₀ last i = length ends - i
+abbrev decreases-loop-i : tie.decreases-loop-i
+decreases-loop-i ends size last₀ i₀ last i = length ends - i
 
-loop-holds : tie.Need-loop-init invariant-loop decreases-loop
+loop-holds : tie.Need-loop-i-init invariant-loop-i decreases-loop-i
 loop-holds c = (omega arith, refl)
 
-returns : tie.Need-returns invariant-loop decreases-loop
+returns : tie.Need-returns-then-end-last invariant-loop-i decreases-loop-i
 returns c =
     let l = c.before.before.before in
-    rw (drop-cons l.before.args.ends.now l.loop.i 0 c.before.before.loop-test.true, lt-leb _ _ c.if1.true) at l.loop.invariant.1
+    rw (drop-cons l.args.ends.now l.loop-i.i 0 c.loop-i-test.true, lt-leb _ _ c.if-end-last.true) at l.loop-i.invariant.1
 
-returns-2 : tie.Need-returns-2 invariant-loop decreases-loop
+returns-2 : tie.Need-returns-then-size-end invariant-loop-i decreases-loop-i
 returns-2 c =
     let l = c.before.before.before.before in
-    rw (drop-cons l.before.args.ends.now l.loop.i 0 c.before.before.before.loop-test.true, le-leb _ _ c.before.if1.false, lt-leb _ _ c.if2.true)
-    at l.loop.invariant.1
+    rw (drop-cons l.args.ends.now l.loop-i.i 0 c.loop-i-test.true, le-leb _ _ c.if-end-last.false, lt-leb _ _ c.if-size-end.true)
+    at l.loop-i.invariant.1
 
-loop-again : tie.Need-loop-preserved invariant-loop decreases-loop
+loop-again : tie.Need-loop-i-preserved invariant-loop-i decreases-loop-i
 loop-again c =
     let l = c.before.before.before.before in (
       omega arith,
       rw add-one (rw (
-        drop-cons l.before.args.ends.now l.loop.i 0 c.before.before.before.loop-test.true,
-        le-leb _ _ c.before.if1.false,
-        le-leb _ _ c.if2.false,
-      ) at l.loop.invariant.1),
+        drop-cons l.args.ends.now l.loop-i.i 0 c.loop-i-test.true,
+        le-leb _ _ c.if-end-last.false,
+        le-leb _ _ c.if-size-end.false,
+      ) at l.loop-i.invariant.1),
     )
 
-returns-3 : tie.Need-returns-3 invariant-loop decreases-loop
+returns-3 : tie.Need-returns invariant-loop-i decreases-loop-i
 returns-3 c =
     let l = c.before in
-    rw (drop_of_length-le l.before.args.ends.now c.loop-test.false) at l.loop.invariant.1
+    rw (drop_of_length-le l.args.ends.now c.loop-i-test.false) at l.loop-i.invariant.1
 
-pub ends-sound-spec : {M : Type 1} → statement M
-ends-sound-spec =
+pub ends_sound_spec : {M : Type 1} → statement M
+ends_sound_spec =
     tie.close
     (tie.spec
-    invariant-loop
-    decreases-loop
+    invariant-loop-i
+    decreases-loop-i
     loop-holds
     (λ c. search rules)
     (λ c. search rules)
-    (λ c. omega (arith, c.shared-slice-known.given c.before.before.loop.i))
+    (λ c. omega (arith, c.shared_slice_known-1.given c.loop-i.i))
     returns
     returns-2
     (λ c. search rules)

@@ -7,9 +7,9 @@ use Rattle.witness.proofs.in_future.Tie as tie
 
 returns : tie.Need-returns
 returns c =
-    let s = c.before.before.signed in
-    let t = c.before.signed2 in
-    rw (c.lt.ensures, to_z-of_z {w = w64} {z = s.result} (sfits_of s.type-inv), to_z-of_z {w = w64} {z = t.result} (sfits_of t.type-inv), s.ensures, t.ensures)
+    let s = c.signed in
+    let t = c.signed-2 in
+    rw (c.lt.ensures, to_z-of_z {w = w64} {z = s.result} (sfits_of s.type_inv), to_z-of_z {w = w64} {z = t.result} (sfits_of t.type_inv), s.ensures, t.ensures)
 
-pub in-future-spec : {M : Type 1} → statement M
-in-future-spec = tie.close (tie.spec (λ c κs. search rules) (λ c κs. search rules) (λ c κs. search rules) returns)
+pub in_future_spec : {M : Type 1} → statement M
+in_future_spec = tie.close (tie.spec (λ c κs. search rules) (λ c κs. search rules) (λ c κs. search rules) returns)

@@ -12,15 +12,15 @@ returns : tie.Need-returns
 returns c =
     let d = c.before.before.before.before.before.before in
     let b = d.before.before.before.before.before.before.before.before in
-    let a = b.before.before.before.before.before.args in
+    let a = b.args in
     let p : 32 ≤ length (drop a.at a.code.now) = rw length-drop (omega arith) in
     let s : 8 ≤ length (drop a.time a.witness.now) = rw length-drop (omega arith) in
     let q : 8 ≤ length (drop a.price a.witness.now) = rw length-drop (omega arith) in
-    rw (c.before.before.copy4.ensures, d.copy3.ensures, d.before.before.before.before.copy2.ensures, b.copy.ensures, key_at_lem a.code.now a.at)
+    rw (c.copy-4.ensures, d.copy-3.ensures, d.copy-2.ensures, b.copy.ensures, key_at_lem a.code.now a.at)
     (four_copies a.out.now (drop a.at a.code.now) (drop a.time a.witness.now) (drop a.price a.witness.now) (drop a.signature a.witness.now) (112 * a.n) (omega arith) p s q)
 
-pub list-check-spec : {M : Type 1} → statement M
-list-check-spec =
+pub list_check_spec : {M : Type 1} → statement M
+list_check_spec =
     tie.close
     (tie.spec
     (λ c. search rules)

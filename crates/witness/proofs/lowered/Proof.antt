@@ -3,5 +3,5 @@ use native.Mathlib.Omega.{arith}
 use Rattle.witness.proofs.lowered.Statement.{statement}
 use Rattle.witness.proofs.lowered.Tie as tie
 
-pub lowered-spec : {M : Type 1} → statement M
-lowered-spec = tie.close (tie.spec (λ c. omega arith) (λ c. omega arith) (λ c. omega arith))
+pub lowered_spec : {M : Type 1} → statement M
+lowered_spec = tie.close (tie.spec (λ c. omega arith) (λ c. omega arith) (λ c. omega arith))

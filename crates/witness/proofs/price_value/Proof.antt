@@ -6,10 +6,10 @@ use borrow.Author.Tests.{le-ltb, lt-ltb}
 use Rattle.witness.proofs.price_value.Statement.{statement}
 use Rattle.witness.proofs.price_value.Tie as tie
 
-pub price-value-spec : {M : Type 1} → statement M
-price-value-spec =
+pub price_value_spec : {M : Type 1} → statement M
+price_value_spec =
     tie.close
     (tie.spec
     (λ c. record { sfits = omega arith })
-    (λ c. rw (to_z_pos w64 c.if1.true, lt-ltb _ _ c.if1.true))
-    (λ c. rw (le-ltb _ _ c.if1.false)))
+    (λ c. rw (to_z_pos w64 c.if-price-lt-PRICE_LIMIT.true, lt-ltb _ _ c.if-price-lt-PRICE_LIMIT.true))
+    (λ c. rw (le-ltb _ _ c.if-price-lt-PRICE_LIMIT.false)))

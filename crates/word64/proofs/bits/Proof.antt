@@ -9,17 +9,17 @@ use Rattle.word64.proofs.Laws.{up, down}
 use Rattle.word64.proofs.bits.Statement.{statement}
 use Rattle.word64.proofs.bits.Tie as tie
 
-returns-2 : tie.Need-returns-2
+returns-2 : tie.Need-returns-else-a-ge0
 returns-2 c =
-    let n = nat_abs (to_z w64 (2 ^ 64 - 1 - of_z w64 c.before.args.a)) in
+    let n = nat_abs (to_z w64 (2 ^ 64 - 1 - of_z w64 c.args.a)) in
     let e : 2 ^ 64 - 1 - n ≡ 2 ^ 64 - suc n = omega arith in
-    e ∙ ap (of_z w64) (down _ c.before.ranges.a c.if1.false).1
+    e ∙ ap (of_z w64) (down _ c.ranges.a c.if-a-ge0.false).1
 
-pub bits-spec : {M : Type 1} → statement M
-bits-spec =
+pub bits_spec : {M : Type 1} → statement M
+bits_spec =
     tie.close
     (tie.spec
-    (λ c. (up _ c.before.ranges.a c.if1.true).0)
-    (λ c. (down _ c.before.ranges.a c.if1.false).0)
-    (λ c. ap (of_z w64) (up _ c.before.ranges.a c.if1.true).1)
+    (λ c. (up _ c.ranges.a c.if-a-ge0.true).0)
+    (λ c. (down _ c.ranges.a c.if-a-ge0.false).0)
+    (λ c. ap (of_z w64) (up _ c.ranges.a c.if-a-ge0.true).1)
     returns-2)

@@ -9,11 +9,11 @@ use Rattle.writer.proofs.Answers.{refused-first}
 use Rattle.writer.proofs.write.Statement.{statement}
 use Rattle.writer.proofs.write.Tie as tie
 
-write-passed-requires : tie.Need-write-passed-requires
+write-passed-requires : tie.Need-write_passed-requires
 write-passed-requires c κs =
-    let k = c.before.before.before.before.before.before in
-    let code = k.before.before.before.before.before.before.before.before.args.code.now in
-    let e : examined code ≡ Examined.Passed k.s.given.0.0 = sym k.before.before.examine.ensures ∙ k.s.given.1 in
+    let k = c.before.before.before.before.before in
+    let code = k.args.code.now in
+    let e : examined code ≡ Examined.Passed k.in-Passed.s = sym k.examine.ensures ∙ k.in-Passed.is in
     (told code _ e, passed_with code _ e (refl, refl))
 
 pub write_spec : {M : Type 1} → statement M
@@ -26,11 +26,11 @@ write_spec =
     (λ c. search rules)
     write-passed-requires
     (λ c.
-    let s = c.before.before.before.before.before.before.before.before.before in
+    let s = c.before.before.before.before.before.before.before in
     refused-first s.args.code.now (records_of s.args.kinds.now s.args.numbers.now s.args.places.now s.args.keys.now) _
-    (told s.args.code.now _ (sym c.before.before.before.examine.ensures ∙ c.before.r.given.1)))
+    (told s.args.code.now _ (sym c.examine.ensures ∙ c.in-Refused.is)))
     (λ c. search rules)
     (λ c. search rules)
     (λ c. search rules)
     (λ c. search rules)
-    (λ c. c.before.before.before.before.before.before.before.before.write-passed.ensures))
+    (λ c. c.write_passed.ensures))

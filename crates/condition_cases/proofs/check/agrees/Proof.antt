@@ -8,10 +8,10 @@ returns : tie.Need-returns
 unfolding check_agrees
 returns c =
     let k = c.before.before.before in
-    rw (c.begins-with.ensures, k.part2.ensures, k.before.covenant-check.ensures, k.before.before.part.ensures)
+    rw (c.begins_with.ensures, k.part-2.ensures, k.covenant_check-answer.ensures, k.part.ensures)
 
-pub agrees-spec : {M : Type 1} → statement M
-agrees-spec =
+pub agrees_spec : {M : Type 1} → statement M
+agrees_spec =
     tie.close
     (tie.spec
     (λ c κs. search rules)

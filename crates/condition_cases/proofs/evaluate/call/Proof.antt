@@ -24,10 +24,10 @@ returns c =
     let e = evaluate_lent_lem s.args.body.now _ _ _ _ _ _ _ _ _ _ _ s.args.checks.now _ p₀.part.ensures p₁.words.ensures p₂.part2.ensures
     p₃.words2.ensures p₄.part3.ensures p₅.words3.ensures p₆.part4.ensures p₇.words4.ensures p₈.part5.ensures
     (rw p₁₁.part6.ensures at at.word.ensures) p₉.part7.ensures p₁₀.halves.ensures in
-    (rw e at call.covenant-evaluate.ensures.0, rw e at call.covenant-evaluate.ensures.1)
+    (rw e at call.covenant_evaluate.ensures.0, rw e at call.covenant_evaluate.ensures.1)
 
-pub call-spec : {M : Type 1} → statement M
-call-spec =
+pub call_spec : {M : Type 1} → statement M
+call_spec =
     tie.close
     (tie.spec
     (λ c. search rules)

@@ -11,22 +11,22 @@ and_yes : (b : Bool) → b ≡ (b && true)
 and_yes true = refl
 and_yes false = refl
 
-returns : tie.Need-returns
+returns : tie.Need-returns-then-kind-gt-BYTES32
 returns c =
-    let k = c.before.args.kind in
-    rw (ne_eqb k 1 (λ e. omega (arith, c.if1.true)), ne_eqb k 3 (λ e. omega (arith, c.if1.true))) (and_yes _ ∙ and_yes _)
+    let k = c.args.kind in
+    rw (ne_eqb k 1 (λ e. omega (arith, c.if-kind-gt-BYTES32.true)), ne_eqb k 3 (λ e. omega (arith, c.if-kind-gt-BYTES32.true))) (and_yes _ ∙ and_yes _)
 
-returns-2 : tie.Need-returns-2
-returns-2 c = rw c.if2.true (and_yes _)
+returns-2 : tie.Need-returns-then-kind-eq-NUM
+returns-2 c = rw c.if-kind-eq-NUM.true (and_yes _)
 
-returns-3 : tie.Need-returns-3
-returns-3 c = rw c.if3.true
+returns-3 : tie.Need-returns-then-kind-eq-BYTES32
+returns-3 c = rw c.if-kind-eq-BYTES32.true
 
-returns-4 : tie.Need-returns-4
-returns-4 c = rw (le-leb c.before.before.before.args.kind 35 (omega (arith, c.before.before.if1.false)), ne_eqb _ 1 c.before.if2.false, ne_eqb _ 3 c.if3.false)
+returns-4 : tie.Need-returns
+returns-4 c = rw (le-leb c.args.kind 35 (omega (arith, c.if-kind-gt-BYTES32.false)), ne_eqb _ 1 c.if-kind-eq-NUM.false, ne_eqb _ 3 c.if-kind-eq-BYTES32.false)
 
-pub fields-sound-spec : {M : Type 1} → statement M
-fields-sound-spec =
+pub fields_sound_spec : {M : Type 1} → statement M
+fields_sound_spec =
     tie.close
     (tie.spec
     returns

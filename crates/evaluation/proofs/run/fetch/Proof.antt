@@ -13,22 +13,22 @@ use Rattle.evaluation.proofs.Turns.{asked, turned, waits}
 use Rattle.evaluation.proofs.run.fetch.Statement.{statement}
 use Rattle.evaluation.proofs.run.fetch.Tie as tie
 
-abbrev start : tie.After-command-of → tie.Start
+abbrev start : tie.After-command_of-command → tie.Start
 start c = c.before.before.before.before.before.before.before.before.before.before.before
 
 abbrev env : tie.Start → Env
-env s = let a = s.args in env_of a.spent.now a.spent-marks.now a.outputs.now a.output-marks.now a.issued.now a.issued-marks.now a.reissued.now a.reissued-marks.now a.current
+env s = let a = s.args in env_of a.spent.now a.spent_marks.now a.outputs.now a.output_marks.now a.issued.now a.issued_marks.now a.reissued.now a.reissued_marks.now a.current
 
 -- what is told of the byte, as the cursor has it
-abbrev cursor : tie.After-width-of → Cursor
+abbrev cursor : tie.After-width_of → Cursor
 cursor w =
     let at = (start w.before).args.spot.at in
-    record { command = w.before.command-of.result; operands = at + 1; next = at + 1 + w.width_of_lem.result }
+    record { command = w.command_of-command.result; operands = at + 1; next = at + 1 + w.width_of_lem.result }
 
-here : (w : tie.After-width-of) → let a = (start w.before).args in cursor w ≡ cursor_at a.code.now a.spot.at
+here : (w : tie.After-width_of) → let a = (start w.before).args in cursor w ≡ cursor_at a.code.now a.spot.at
 here w =
     let at = (start w.before).args.spot.at in
-    let p = w.before.command-of.ensures in
+    let p = w.command_of-command.ensures in
     let q = w.width_of_lem.ensures ∙ ap (λ (d : Command). (command_row d).width) p in
     λ k. record { command = p k; operands = at + 1; next = at + 1 + q k }
 
@@ -36,56 +36,56 @@ step-requires : tie.Need-step-requires
 step-requires c κs =
     let w = c.before.before in
     let p = (start w.before).requires in
-    rw w.before.command-of.ensures (p.ready, p.operands)
+    rw w.command_of-command.ensures (p.ready, p.operands)
 
-returns : tie.Need-returns
+returns : tie.Need-returns-in-Turned
 returns c =
-    let t = c.before.before in
-    let u = t.before.before.before.before in
+    let t = c.before in
+    let u = t.before.before.before in
     let w = u.before.before.before in
     let s = start w.before in
     let a = s.args in
     turned (env s) a.code.now a.vals.now a.idxs.now a.spot u.step.new.1.1.1.1.0 u.step.new.1.1.1.1.1.0 (cursor w) (here w)
-    u.step.result u.step.ensures.1 _ c.onward.result c.onward.ensures t.turn.given.1
+    u.step.result u.step.ensures.1 _ c.onward.result c.onward.ensures t.in-Turned.is
 
-returns-2 : tie.Need-returns-2
+returns-2 : tie.Need-returns-in-Amount
 returns-2 c =
     let l = c.before.before in
-    let t = l.before.before.before in
-    let u = t.before.before.before.before in
+    let t = l.before.before in
+    let u = t.before.before.before in
     let w = u.before.before.before in
     let s = start w.before in
     let a = s.args in
     asked (env s) a.code.now a.vals.now a.idxs.now a.spot u.step.new.1.1.1.1.0 u.step.new.1.1.1.1.1.0 (cursor w) (here w)
-    u.step.result u.step.ensures.1 l.step-lookup.result c.onward2.result c.onward2.ensures _ _ _ t.list.given.1
-    l.step-lookup.new.1.1.1.1.1.1.1.1.1.1.0 (l.step-lookup.ensures a.current _)
+    u.step.result u.step.ensures.1 l.step_lookup-turn.result c.onward-in-Amount.result c.onward-in-Amount.ensures _ _ _ t.in-Amount.is
+    l.step_lookup-turn.new.1.1.1.1.1.1.1.1.1.1.0 (l.step_lookup-turn.ensures a.current _)
 
-returns-3 : tie.Need-returns-3
+returns-3 : tie.Need-returns-in-Oracle
 returns-3 c =
-    let u = c.before.before.before.before in
+    let u = c.before.before.before in
     let w = u.before.before.before in
     let s = start w.before in
     let a = s.args in
     waits (env s) a.code.now a.vals.now a.idxs.now a.spot u.step.new.1.1.1.1.0 u.step.new.1.1.1.1.1.0 (cursor w) (here w)
-    u.step.result u.step.ensures.1 u.step.ensures.0 c.enum_told.given.1
+    u.step.result u.step.ensures.1 u.step.ensures.0 c.in-Oracle.is
 
-add-next : tie.Need-overflow-add-next
-add-next c = let s = start c.before in omega (arith, s.pre.operands, rw c.before.command-of.ensures at c.width_of_lem.ensures, s.good.0.0)
+add-next : tie.Need-overflow_add-next
+add-next c = let s = start c.before in omega (arith, s.pre.operands, rw c.command_of-command.ensures at c.width_of_lem.ensures, s.good.0.0)
 
 pub fetch_spec : {M : Type 1} → statement M
 fetch_spec =
     tie.close
     (tie.spec
-    (λ c. c.before.before.before.before.before.before.before.before.before.before.requires.inside)
+    (λ c. c.requires.inside)
     (λ c κs. search rules)
-    (λ c. omega (arith, (start c).requires.operands, (start c).well-formed.0.0))
+    (λ c. omega (arith, (start c).requires.operands, (start c).well_formed.0.0))
     (λ c κs. search rules)
     add-next
     step-requires
     (λ c. search rules)
     (λ c κs. search rules)
     (λ c. search rules)
-    (λ c κs. omega (arith, (start c.before.before.before.before.before.before.before.before.before.before).requires.ready.values_fit))
+    (λ c κs. omega (arith, (start c.before.before.before.before.before.before.before.before).requires.ready.values_fit))
     (λ c κs. search rules)
     (λ c. search rules)
     (λ c. search rules)

@@ -4,8 +4,8 @@ use mathlib.Core.Path.{refl}
 use Rattle.evaluation.proofs.run.pushed.Statement.{statement}
 use Rattle.evaluation.proofs.run.pushed.Tie as tie
 
-pub pushed-spec : {M : Type 1} → statement M
-pushed-spec =
+pub pushed_spec : {M : Type 1} → statement M
+pushed_spec =
     tie.close
     (tie.spec
     (λ c. search rules)
@@ -13,6 +13,6 @@ pushed-spec =
     (λ c. search rules)
     (λ c. search rules)
     (λ c. search rules)
-    (λ c. (refl, λ indexes. rw c.before.values.given.1 at (c.before.before.before.before.push-value.ensures indexes)))
+    (λ c. (refl, λ indexes. rw c.in-On.is at (c.push_value.ensures indexes)))
     (λ c. search rules)
-    (λ c. λ indexes. rw c.before.verdict.given.1 at (c.before.before.before.before.push-value.ensures indexes)))
+    (λ c. λ indexes. rw c.in-Ended.is at (c.push_value.ensures indexes)))

@@ -13,31 +13,31 @@ use Rattle.token_cases.proofs.decode.agrees.Statement.{statement}
 use Rattle.token_cases.proofs.decode.agrees.Tie as tie
 
 -- what the call leaves is as long as the buffer that it was lent
-same_length : (c : tie.After-call)
-    → length (c.call.new.1.0 ++ drop c.before.before.before.word.result c.before.before.before.before.before.filled.result) ≡ 9300
+same_length : (c : tie.After-call-answer)
+    → length (c.call-answer.new.1.0 ++ drop c.word-room.result c.filled-code.result) ≡ 9300
 same_length c =
     let f = c.before.before.before.before.before in
-    full-after 9300 fill c.before.before.before.word.result f.filled.result c.call.new.1.0 f.filled.ensures c.call.auto.1.0
+    full-after 9300 fill c.word-room.result f.filled-code.result c.call-answer.new.1.0 f.filled-code.ensures c.call-answer.auto.1.0
 
-returns : tie.Need-returns
+returns : tie.Need-returns-then-room-gt-ROOM
 returns c =
     let p = c.before.before in
-    let h : 9300 < c.before.word.result = omega arith in
-    sym (decode_short p.before.before.before.args.body.now p.part.result.now _ p.part.ensures c.before.word.ensures h)
+    let h : 9300 < c.word-room.result = omega arith in
+    sym (decode_short p.args.body.now p.part-known.result.now _ p.part-known.ensures c.word-room.ensures h)
 
-returns-2 : tie.Need-returns-2
+returns-2 : tie.Need-returns
 returns-2 c =
     let d = c.before.before.before.before.before.before in
     let w = d.before.before.before in
     let p = w.before in
     let f = p.before in
-    let h : w.word.result ≤ 9300 = omega arith in
-    let e = decode-compared f.before.before.args.body.now p.part.result.now w.word.result p.part.ensures w.word.ensures
-    f.filled.result _ d.call.result f.filled.ensures h d.call.ensures.0 d.call.ensures.1 in
-    rw (c.knows.ensures, c.before.part2.ensures) (sym e)
+    let h : w.word-room.result ≤ 9300 = omega arith in
+    let e = decode-compared f.args.body.now p.part-known.result.now w.word-room.result p.part-known.ensures w.word-room.ensures
+    f.filled-code.result _ d.call-answer.result f.filled-code.ensures h d.call-answer.ensures.0 d.call-answer.ensures.1 in
+    rw (c.knows.ensures, c.part.ensures) (sym e)
 
-pub agrees-spec : {M : Type 1} → statement M
-agrees-spec =
+pub agrees_spec : {M : Type 1} → statement M
+agrees_spec =
     tie.close
     (tie.spec
     (λ c κs. search rules)
@@ -45,7 +45,7 @@ agrees-spec =
     (λ c κs. search rules)
     returns
     (λ c. search rules)
-    (λ c. sym (length-take-le _ _ (omega (arith, full _ _ _ c.before.before.before.before.filled.ensures))))
+    (λ c. sym (length-take-le _ _ (omega (arith, full _ _ _ c.filled-code.ensures))))
     (λ c κs. search rules)
     (λ c. search rules)
     (λ c. search rules)

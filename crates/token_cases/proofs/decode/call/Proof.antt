@@ -9,13 +9,13 @@ returns c =
     let d = c.before.before.before.before in
     let keys = d.before.before in
     let kinds = keys.before.before.before in
-    let body = kinds.before.before.before.before.before.before.before.args.body.now in
+    let body = kinds.args.body.now in
     let p = kinds.before in
-    let e = decode-lent body _ _ _ _ kinds.part.ensures p.before.before.words.ensures p.halves.ensures keys.part2.ensures in
-    (rw e at d.covenant-decode.ensures.0, rw e at d.covenant-decode.ensures.1.0)
+    let e = decode-lent body _ _ _ _ kinds.part.ensures p.words.ensures p.halves.ensures keys.part-2.ensures in
+    (rw e at d.covenant_decode.ensures.0, rw e at d.covenant_decode.ensures.1.0)
 
-pub call-spec : {M : Type 1} → statement M
-call-spec =
+pub call_spec : {M : Type 1} → statement M
+call_spec =
     tie.close
     (tie.spec
     (λ c. search rules)

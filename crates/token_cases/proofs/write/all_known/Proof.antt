@@ -10,65 +10,65 @@ use Rattle.token_cases.specs.Writing.{answer_known, fill_word}
 use Rattle.token_cases.proofs.write.all_known.Statement.{statement}
 use Rattle.token_cases.proofs.write.all_known.Tie as tie
 
-abbrev begin : tie.After-is-known → tie.Start
+abbrev begin : tie.After-is_known → tie.Start
 begin k = k.before.before.before.before.before.before.before
 
 -- what each comparison tells
-answer : (k : tie.After-is-known) → k.is_Known.result ≡ answer_known (part_of (begin k).args.body.now 1) (begin k).args.a
-answer k = k.is_Known.ensures ∙ ap (λ (p : List ℕ). answer_known p (begin k).args.a) k.before.part.ensures
+answer : (k : tie.After-is_known) → k.is_known.result ≡ answer_known (part_of (begin k).args.body.now 1) (begin k).args.a
+answer k = k.is_known.ensures ∙ ap (λ (p : List ℕ). answer_known p (begin k).args.a) k.part.ensures
 
 kinds : (h : tie.After-holds) → let s = begin h.before.before.before in h.holds.result ≡ held fill (part_of s.args.body.now 2) s.args.kinds.now
-kinds h = let s = begin h.before.before.before in h.holds.ensures ∙ ap (λ (p : List ℕ). held fill p s.args.kinds.now) h.before.part2.ensures
+kinds h = let s = begin h.before.before.before in h.holds.ensures ∙ ap (λ (p : List ℕ). held fill p s.args.kinds.now) h.part-2.ensures
 
-numbers : (w : tie.After-holds-words)
-    → let s = begin w.before.before.before.before.before.before in w.holds-words.result ≡ held fill_word (words_of (part_of s.args.body.now 3)) s.args.numbers.now
+numbers : (w : tie.After-holds_words)
+    → let s = begin w.before.before.before.before.before.before in w.holds_words.result ≡ held fill_word (words_of (part_of s.args.body.now 3)) s.args.numbers.now
 numbers w =
     let s = begin w.before.before.before.before.before.before in
-    w.holds-words.ensures ∙ ap (λ (p : List ℕ). held fill_word (words_of p) s.args.numbers.now) w.before.part3.ensures
+    w.holds_words.ensures ∙ ap (λ (p : List ℕ). held fill_word (words_of p) s.args.numbers.now) w.part-3.ensures
 
-places : (l : tie.After-holds-halves)
-    → let s = begin l.before.before.before.before.before.before.before.before.before in l.holds-halves.result ≡ held fill_word (halves_of (part_of s.args.body.now 4)) s.args.places.now
+places : (l : tie.After-holds_halves)
+    → let s = begin l.before.before.before.before.before.before.before.before.before in l.holds_halves.result ≡ held fill_word (halves_of (part_of s.args.body.now 4)) s.args.places.now
 places l =
     let s = begin l.before.before.before.before.before.before.before.before.before in
-    l.holds-halves.ensures ∙ ap (λ (p : List ℕ). held fill_word (halves_of p) s.args.places.now) l.before.part4.ensures
+    l.holds_halves.ensures ∙ ap (λ (p : List ℕ). held fill_word (halves_of p) s.args.places.now) l.part-4.ensures
 
-returns : tie.Need-returns
-returns c = rw (sym (answer c.before) ∙ not-true _ c.if1.true)
+returns : tie.Need-returns-then-not-is_known
+returns c = rw (sym (answer c.before) ∙ not-true _ c.if-not-is_known.true-raw)
 
-returns-2 : tie.Need-returns-2
+returns-2 : tie.Need-returns-then-not-holds
 returns-2 c =
-    rw (sym (answer c.before.before.before.before) ∙ not-false _ c.before.before.before.if1.false, sym (kinds c.before) ∙ not-true _ c.if2.true)
+    rw (sym (answer c.before.before.before.before) ∙ not-false _ c.if-not-is_known.false-raw, sym (kinds c.before) ∙ not-true _ c.if-not-holds.true-raw)
 
-returns-3 : tie.Need-returns-3
+returns-3 : tie.Need-returns-then-not-holds_words
 returns-3 c =
     rw (
-      sym (answer c.before.before.before.before.before.before.before) ∙ not-false _ c.before.before.before.before.before.before.if1.false,
-      sym (kinds c.before.before.before.before) ∙ not-false _ c.before.before.before.if2.false,
-      sym (numbers c.before) ∙ not-true _ c.if3.true,
+      sym (answer c.before.before.before.before.before.before.before) ∙ not-false _ c.if-not-is_known.false-raw,
+      sym (kinds c.before.before.before.before) ∙ not-false _ c.if-not-holds.false-raw,
+      sym (numbers c.before) ∙ not-true _ c.if-not-holds_words.true-raw,
     )
 
-returns-4 : tie.Need-returns-4
+returns-4 : tie.Need-returns-then-not-holds_halves
 returns-4 c =
     rw (
-      sym (answer c.before.before.before.before.before.before.before.before.before.before) ∙ not-false _ c.before.before.before.before.before.before.before.before.before.if1.false,
-      sym (kinds c.before.before.before.before.before.before.before) ∙ not-false _ c.before.before.before.before.before.before.if2.false,
-      sym (numbers c.before.before.before.before) ∙ not-false _ c.before.before.before.if3.false,
-      sym (places c.before) ∙ not-true _ c.if4.true,
+      sym (answer c.before.before.before.before.before.before.before.before.before.before) ∙ not-false _ c.if-not-is_known.false-raw,
+      sym (kinds c.before.before.before.before.before.before.before) ∙ not-false _ c.if-not-holds.false-raw,
+      sym (numbers c.before.before.before.before) ∙ not-false _ c.if-not-holds_words.false-raw,
+      sym (places c.before) ∙ not-true _ c.if-not-holds_halves.true-raw,
     )
 
-returns-5 : tie.Need-returns-5
+returns-5 : tie.Need-returns
 returns-5 c =
     rw (
-      sym (answer c.before.before.before.before.before.before.before.before.before.before.before.before) ∙ not-false _ c.before.before.before.before.before.before.before.before.before.before.before.if1.false,
-      sym (kinds c.before.before.before.before.before.before.before.before.before) ∙ not-false _ c.before.before.before.before.before.before.before.before.if2.false,
-      sym (numbers c.before.before.before.before.before.before) ∙ not-false _ c.before.before.before.before.before.if3.false,
-      sym (places c.before.before.before) ∙ not-false _ c.before.before.if4.false,
-      ← c.before.part5.ensures,
+      sym (answer c.before.before.before.before.before.before.before.before.before.before.before.before) ∙ not-false _ c.if-not-is_known.false-raw,
+      sym (kinds c.before.before.before.before.before.before.before.before.before) ∙ not-false _ c.if-not-holds.false-raw,
+      sym (numbers c.before.before.before.before.before.before) ∙ not-false _ c.if-not-holds_words.false-raw,
+      sym (places c.before.before.before) ∙ not-false _ c.if-not-holds_halves.false-raw,
+      ← c.part-5.ensures,
     )
-    c.holds2.ensures
+    c.holds-2.ensures
 
-pub all-known-spec : {M : Type 1} → statement M
-all-known-spec =
+pub all_known_spec : {M : Type 1} → statement M
+all_known_spec =
     tie.close
     (tie.spec
     (λ c κs. search rules)

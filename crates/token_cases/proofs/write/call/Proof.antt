@@ -16,19 +16,19 @@ returns c =
     let g = f.before.before in
     let h = g.before.before in
     let known = h.before.before in
-    let a = known.before.before.before.before.before.before.args in
-    let p = rw h.before.word.ensures at h.at_most.ensures in
-    let q = rw g.before.word2.ensures at g.at-most2.ensures in
-    let r = rw f.before.word3.ensures at f.at-most3.ensures in
-    let s = rw d.before.word4.ensures at d.at-most4.ensures in (
-      answered a.body.now code.part2.result.now known.part.result.now a.kinds.now a.numbers.now a.places.now a.keys.now _ _ _ _
-          code.part2.ensures known.part.ensures p q r s _ w.covenant-write.ensures.0,
-      left a.body.now code.part2.result.now known.part.result.now a.kinds.now a.numbers.now a.places.now a.keys.now _ _ _ _
-          code.part2.ensures known.part.ensures p q r s _ _ _ _ w.covenant-write.ensures.1,
+    let a = known.args in
+    let p = rw h.word.ensures at h.at_most-kind_room.ensures in
+    let q = rw g.word-2.ensures at g.at_most-number_room.ensures in
+    let r = rw f.word-3.ensures at f.at_most-place_room.ensures in
+    let s = rw d.word-4.ensures at d.at_most-key_room.ensures in (
+      answered a.body.now code.part.result.now known.part-known.result.now a.kinds.now a.numbers.now a.places.now a.keys.now _ _ _ _
+          code.part.ensures known.part-known.ensures p q r s _ w.covenant_write.ensures.0,
+      left a.body.now code.part.result.now known.part-known.result.now a.kinds.now a.numbers.now a.places.now a.keys.now _ _ _ _
+          code.part.ensures known.part-known.ensures p q r s _ _ _ _ w.covenant_write.ensures.1,
     )
 
-pub call-spec : {M : Type 1} → statement M
-call-spec =
+pub call_spec : {M : Type 1} → statement M
+call_spec =
     tie.close
     (tie.spec
     (λ c κs. search rules)
@@ -41,14 +41,14 @@ call-spec =
     (λ c κs. search rules)
     (λ c κs. search rules)
     (λ c κs. search rules)
-    (λ c. omega (arith, c.before.before.before.before.before.before.before.at_most.ensures))
-    (λ c. sym (length-take-le _ _ (omega (arith, c.before.before.before.before.before.before.before.before.at_most.ensures))))
-    (λ c. omega (arith, c.before.before.before.before.before.before.at-most2.ensures))
-    (λ c. sym (length-take-le _ _ (omega (arith, c.before.before.before.before.before.before.before.at-most2.ensures))))
-    (λ c. omega (arith, c.before.before.before.before.before.at-most3.ensures))
-    (λ c. sym (length-take-le _ _ (omega (arith, c.before.before.before.before.before.before.at-most3.ensures))))
-    (λ c. omega (arith, c.before.before.before.before.at-most4.ensures))
-    (λ c. sym (length-take-le _ _ (omega (arith, c.before.before.before.before.before.at-most4.ensures))))
+    (λ c. omega (arith, c.at_most-kind_room.ensures))
+    (λ c. sym (length-take-le _ _ (omega (arith, c.at_most-kind_room.ensures))))
+    (λ c. omega (arith, c.at_most-number_room.ensures))
+    (λ c. sym (length-take-le _ _ (omega (arith, c.at_most-number_room.ensures))))
+    (λ c. omega (arith, c.at_most-place_room.ensures))
+    (λ c. sym (length-take-le _ _ (omega (arith, c.at_most-place_room.ensures))))
+    (λ c. omega (arith, c.at_most-key_room.ensures))
+    (λ c. sym (length-take-le _ _ (omega (arith, c.at_most-key_room.ensures))))
     (λ c κs. search rules)
     (λ c. search rules)
     (λ c. search rules)

@@ -8,5 +8,5 @@ returns : tie.Need-returns
 unfolding fresh
 returns c = refl
 
-pub filled-keys-spec : {M : Type 1} → statement M
-filled-keys-spec = tie.close (tie.spec returns)
+pub filled_keys_spec : {M : Type 1} → statement M
+filled_keys_spec = tie.close (tie.spec returns)

@@ -8,5 +8,5 @@ returns : tie.Need-returns
 unfolding fresh
 returns c = refl
 
-pub filled-places-spec : {M : Type 1} → statement M
-filled-places-spec = tie.close (tie.spec returns)
+pub filled_places_spec : {M : Type 1} → statement M
+filled_places_spec = tie.close (tie.spec returns)

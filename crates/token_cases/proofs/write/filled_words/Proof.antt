@@ -8,5 +8,5 @@ returns : tie.Need-returns
 unfolding fresh
 returns c = refl
 
-pub filled-words-spec : {M : Type 1} → statement M
-filled-words-spec = tie.close (tie.spec returns)
+pub filled_words_spec : {M : Type 1} → statement M
+filled_words_spec = tie.close (tie.spec returns)

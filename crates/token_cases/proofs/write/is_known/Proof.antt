@@ -7,10 +7,10 @@ returns : tie.Need-returns
 returns c =
     let w = c.before.before.before in
     let v = w.before.before in
-    rw (← v.before.word.ensures, ← v.word2.ensures, ← w.before.word3.ensures, ← w.word4.ensures) c.begins-with.ensures
+    rw (← v.word.ensures, ← v.word-2.ensures, ← w.word-3.ensures, ← w.word-4.ensures) c.begins_with.ensures
 
-pub is-known-spec : {M : Type 1} → statement M
-is-known-spec =
+pub is_known_spec : {M : Type 1} → statement M
+is_known_spec =
     tie.close
     (tie.spec
     (λ c κs. search rules)

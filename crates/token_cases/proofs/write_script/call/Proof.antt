@@ -6,11 +6,11 @@ use Rattle.token_cases.proofs.write_script.call.Tie as tie
 returns : tie.Need-returns
 returns c =
     let d = c.before.before in
-    let e = d.before.before.part.ensures in
-    (rw e at d.covenant-write-script.ensures.0, rw e at d.covenant-write-script.ensures.1)
+    let e = d.part.ensures in
+    (rw e at d.covenant_write_script.ensures.0, rw e at d.covenant_write_script.ensures.1)
 
-pub call-spec : {M : Type 1} → statement M
-call-spec =
+pub call_spec : {M : Type 1} → statement M
+call_spec =
     tie.close
     (tie.spec
     (λ c κs. search rules)
