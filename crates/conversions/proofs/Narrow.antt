@@ -17,14 +17,14 @@ and_end true = refl
 and_end false = refl
 
 pub idx_narrow : (o : IdxOp) → narrow (idx_row o).form ≡ true
-idx_narrow o = elim o [ IdxOp.Add ↦ refl | IdxOp.Sub ↦ refl | IdxOp.Mul ↦ refl | IdxOp.Div ↦ refl ]
+idx_narrow o = elim o as (λ o. narrow (idx_row o).form ≡ true) [ IdxOp.Add ↦ refl | IdxOp.Sub ↦ refl | IdxOp.Mul ↦ refl | IdxOp.Div ↦ refl ]
 
 pub list_narrow : (l : AmountList) → narrow (list_row l).form ≡ true
-list_narrow l = elim l [ AmountList.Input ↦ refl | AmountList.Output ↦ refl | AmountList.InputIssue ↦ refl | AmountList.InputReIssue ↦ refl ]
+list_narrow l = elim l as (λ l. narrow (list_row l).form ≡ true) [ AmountList.Input ↦ refl | AmountList.Output ↦ refl | AmountList.InputIssue ↦ refl | AmountList.InputReIssue ↦ refl ]
 
 pub binary_narrow : (o : BinOp) → narrow (bin_row o).form ≡ true
 binary_narrow o =
-    elim o [
+    elim o as (λ o. narrow (bin_row o).form ≡ true) [
       | BinOp.Add ↦ refl
       | BinOp.Sub ↦ refl
       | BinOp.Mul ↦ refl
@@ -36,10 +36,10 @@ binary_narrow o =
     ]
 
 pub unary_narrow : (o : UnOp) → narrow (un_row o).form ≡ true
-unary_narrow o = elim o [ UnOp.Invert ↦ refl | UnOp.Negate ↦ refl ]
+unary_narrow o = elim o as (λ o. narrow (un_row o).form ≡ true) [ UnOp.Invert ↦ refl | UnOp.Negate ↦ refl ]
 
 pub compare_narrow : (o : CmpOp) → narrow (cmp_row o).form ≡ true
-compare_narrow o = elim o [ CmpOp.Eq ↦ refl | CmpOp.Lt ↦ refl | CmpOp.Leq ↦ refl | CmpOp.Gt ↦ refl | CmpOp.Geq ↦ refl ]
+compare_narrow o = elim o as (λ o. narrow (cmp_row o).form ≡ true) [ CmpOp.Eq ↦ refl | CmpOp.Lt ↦ refl | CmpOp.Leq ↦ refl | CmpOp.Gt ↦ refl | CmpOp.Geq ↦ refl ]
 
 -- a constant that 6 turns down is not made good
 pub narrow-stays : (ns : List Instruction) → fold narrow_step false ns ≡ false

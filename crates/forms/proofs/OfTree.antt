@@ -85,7 +85,7 @@ emission : {m m' : List Bool} {t t' : List Token} → m ≡ m' → t ≡ t' → 
 emission p q = λ k. record { marks = p k; tokens = q k }
 
 between : (o : IdxOp) → converted (converts (Command.Index o)) ≡ (idx_row o).between
-between o = elim o [ IdxOp.Add ↦ refl | IdxOp.Sub ↦ refl | IdxOp.Mul ↦ refl | IdxOp.Div ↦ refl ]
+between o = elim o as (λ o. converted (converts (Command.Index o)) ≡ (idx_row o).between) [ IdxOp.Add ↦ refl | IdxOp.Sub ↦ refl | IdxOp.Mul ↦ refl | IdxOp.Div ↦ refl ]
 
 emit_idx : (x : IdxExpr) → IdxEncodable x → (b : Bool) (m : List Bool) (t : List Token)
     → on_idx emit_step x (record { marks = inner x ++ b ∷ m; tokens = t }) ≡ record { marks = m; tokens = t ++ idx_form x ++ converted b }

@@ -54,12 +54,12 @@ record Own (ts : List Token) : Type 0 where
   one : 1 ≤ length ts
 
 idx_between_lem : (o : IdxOp) → sizes (idx_row o).between ≡ length (idx_row o).between
-idx_between_lem o = elim o [ IdxOp.Add ↦ refl | IdxOp.Sub ↦ refl | IdxOp.Mul ↦ refl | IdxOp.Div ↦ refl ]
+idx_between_lem o = elim o as (λ o. sizes (idx_row o).between ≡ length (idx_row o).between) [ IdxOp.Add ↦ refl | IdxOp.Sub ↦ refl | IdxOp.Mul ↦ refl | IdxOp.Div ↦ refl ]
 
 idx_own : (o : IdxOp) → Own (idx_row o).form
 unfolding push_int
 idx_own o =
-    elim o [
+    elim o as (λ o. Own (idx_row o).form) [
       | IdxOp.Add ↦ record { bytes = refl; one = omega arith }
       | IdxOp.Sub ↦ record { bytes = refl; one = omega arith }
       | IdxOp.Mul ↦ record { bytes = refl; one = omega arith }
@@ -69,7 +69,7 @@ idx_own o =
 list_own : (l : AmountList) → Own (list_row l).form
 unfolding push_int
 list_own l =
-    elim l [
+    elim l as (λ l. Own (list_row l).form) [
       | AmountList.Input ↦ record { bytes = refl; one = omega arith }
       | AmountList.Output ↦ record { bytes = refl; one = omega arith }
       | AmountList.InputIssue ↦ record { bytes = refl; one = omega arith }
@@ -79,7 +79,7 @@ list_own l =
 bin_own : (o : BinOp) → Own (bin_row o).form
 unfolding push_int
 bin_own o =
-    elim o [
+    elim o as (λ o. Own (bin_row o).form) [
       | BinOp.Add ↦ record { bytes = refl; one = omega arith }
       | BinOp.Sub ↦ record { bytes = refl; one = omega arith }
       | BinOp.Mul ↦ record { bytes = refl; one = omega arith }
@@ -92,11 +92,11 @@ bin_own o =
 
 un_own : (o : UnOp) → Own (un_row o).form
 unfolding push_int
-un_own o = elim o [ UnOp.Invert ↦ record { bytes = refl; one = omega arith } | UnOp.Negate ↦ record { bytes = refl; one = omega arith } ]
+un_own o = elim o as (λ o. Own (un_row o).form) [ UnOp.Invert ↦ record { bytes = refl; one = omega arith } | UnOp.Negate ↦ record { bytes = refl; one = omega arith } ]
 
 cmp_own : (o : CmpOp) → Own (cmp_row o).form
 cmp_own o =
-    elim o [
+    elim o as (λ o. Own (cmp_row o).form) [
       | CmpOp.Eq ↦ record { bytes = refl; one = omega arith }
       | CmpOp.Lt ↦ record { bytes = refl; one = omega arith }
       | CmpOp.Leq ↦ record { bytes = refl; one = omega arith }

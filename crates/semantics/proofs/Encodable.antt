@@ -67,15 +67,15 @@ abbrev Byte : ℕ → Type 0
 Byte b = b < 256
 
 idx_op_byte : (o : IdxOp) → Byte (idx_row o).command
-idx_op_byte o = elim o [ IdxOp.Add ↦ omega arith | IdxOp.Sub ↦ omega arith | IdxOp.Mul ↦ omega arith | IdxOp.Div ↦ omega arith ]
+idx_op_byte o = elim o as (λ o. Byte (idx_row o).command) [ IdxOp.Add ↦ omega arith | IdxOp.Sub ↦ omega arith | IdxOp.Mul ↦ omega arith | IdxOp.Div ↦ omega arith ]
 
 list_byte : (l : AmountList) → Byte (list_row l).command
 list_byte l =
-    elim l [ AmountList.Input ↦ omega arith | AmountList.Output ↦ omega arith | AmountList.InputIssue ↦ omega arith | AmountList.InputReIssue ↦ omega arith ]
+    elim l as (λ l. Byte (list_row l).command) [ AmountList.Input ↦ omega arith | AmountList.Output ↦ omega arith | AmountList.InputIssue ↦ omega arith | AmountList.InputReIssue ↦ omega arith ]
 
 bin_op_byte : (o : BinOp) → Byte (bin_row o).command
 bin_op_byte o =
-    elim o [
+    elim o as (λ o. Byte (bin_row o).command) [
       | BinOp.Add ↦ omega arith
       | BinOp.Sub ↦ omega arith
       | BinOp.Mul ↦ omega arith
@@ -87,11 +87,11 @@ bin_op_byte o =
     ]
 
 un_op_byte : (o : UnOp) → Byte (un_row o).command
-un_op_byte o = elim o [ UnOp.Invert ↦ omega arith | UnOp.Negate ↦ omega arith ]
+un_op_byte o = elim o as (λ o. Byte (un_row o).command) [ UnOp.Invert ↦ omega arith | UnOp.Negate ↦ omega arith ]
 
 cmp_byte : (o : CmpOp) → Byte (cmp_row o).command
 cmp_byte o =
-    elim o [
+    elim o as (λ o. Byte (cmp_row o).command) [
       | CmpOp.Eq ↦ omega arith
       | CmpOp.Lt ↦ omega arith
       | CmpOp.Leq ↦ omega arith

@@ -29,7 +29,7 @@ record Own (ts : List Token) : Type 0 where
 idx_op_own : (o : IdxOp) → Own (idx_row o).between × Own (idx_row o).form
 unfolding keys_from
 idx_op_own o =
-    elim o [
+    elim o as (λ o. Own (idx_row o).between × Own (idx_row o).form) [
       | IdxOp.Add ↦ (record { sound = search rules; keys = λ ks. refl }, record { sound = search rules; keys = λ ks. refl })
       | IdxOp.Sub ↦ (record { sound = search rules; keys = λ ks. refl }, record { sound = search rules; keys = λ ks. refl })
       | IdxOp.Mul ↦ (record { sound = search rules; keys = λ ks. refl }, record { sound = search rules; keys = λ ks. refl })
@@ -39,7 +39,7 @@ idx_op_own o =
 list_own : (l : AmountList) → Own (list_row l).form
 unfolding keys_from
 list_own l =
-    elim l [
+    elim l as (λ l. Own (list_row l).form) [
       | AmountList.Input ↦ record { sound = search rules; keys = λ ks. refl }
       | AmountList.Output ↦ record { sound = search rules; keys = λ ks. refl }
       | AmountList.InputIssue ↦ record { sound = search rules; keys = λ ks. refl }
@@ -49,7 +49,7 @@ list_own l =
 bin_op_own : (o : BinOp) → Own (bin_row o).form
 unfolding keys_from
 bin_op_own o =
-    elim o [
+    elim o as (λ o. Own (bin_row o).form) [
       | BinOp.Add ↦ record { sound = search rules; keys = λ ks. refl }
       | BinOp.Sub ↦ record { sound = search rules; keys = λ ks. refl }
       | BinOp.Mul ↦ record { sound = search rules; keys = λ ks. refl }
@@ -62,12 +62,12 @@ bin_op_own o =
 
 un_op_own : (o : UnOp) → Own (un_row o).form
 unfolding keys_from
-un_op_own o = elim o [ UnOp.Invert ↦ record { sound = search rules; keys = λ ks. refl } | UnOp.Negate ↦ record { sound = search rules; keys = λ ks. refl } ]
+un_op_own o = elim o as (λ o. Own (un_row o).form) [ UnOp.Invert ↦ record { sound = search rules; keys = λ ks. refl } | UnOp.Negate ↦ record { sound = search rules; keys = λ ks. refl } ]
 
 cmp_own : (o : CmpOp) → Own (cmp_row o).form
 unfolding keys_from
 cmp_own o =
-    elim o [
+    elim o as (λ o. Own (cmp_row o).form) [
       | CmpOp.Eq ↦ record { sound = search rules; keys = λ ks. refl }
       | CmpOp.Lt ↦ record { sound = search rules; keys = λ ks. refl }
       | CmpOp.Leq ↦ record { sound = search rules; keys = λ ks. refl }

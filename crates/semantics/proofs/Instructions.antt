@@ -47,17 +47,17 @@ bytes-instructions bs = bytes_after 0 bs
 -- the command of each byte: no two commands have one
 pub idx_command : (o : IdxOp) → command_of (idx_row o).command ≡ Command.Index o
 unfolding command_of
-idx_command o = elim o [ IdxOp.Add ↦ refl | IdxOp.Sub ↦ refl | IdxOp.Mul ↦ refl | IdxOp.Div ↦ refl ]
+idx_command o = elim o as (λ o. command_of (idx_row o).command ≡ Command.Index o) [ IdxOp.Add ↦ refl | IdxOp.Sub ↦ refl | IdxOp.Mul ↦ refl | IdxOp.Div ↦ refl ]
 
 pub list_command : (l : AmountList) → command_of (list_row l).command ≡ Command.Lookup l
 unfolding command_of
 list_command l =
-    elim l [ AmountList.Input ↦ refl | AmountList.Output ↦ refl | AmountList.InputIssue ↦ refl | AmountList.InputReIssue ↦ refl ]
+    elim l as (λ l. command_of (list_row l).command ≡ Command.Lookup l) [ AmountList.Input ↦ refl | AmountList.Output ↦ refl | AmountList.InputIssue ↦ refl | AmountList.InputReIssue ↦ refl ]
 
 pub binary_command : (o : BinOp) → command_of (bin_row o).command ≡ Command.Binary o
 unfolding command_of
 binary_command o =
-    elim o [
+    elim o as (λ o. command_of (bin_row o).command ≡ Command.Binary o) [
       | BinOp.Add ↦ refl
       | BinOp.Sub ↦ refl
       | BinOp.Mul ↦ refl
@@ -70,12 +70,12 @@ binary_command o =
 
 pub unary_command : (o : UnOp) → command_of (un_row o).command ≡ Command.Unary o
 unfolding command_of
-unary_command o = elim o [ UnOp.Invert ↦ refl | UnOp.Negate ↦ refl ]
+unary_command o = elim o as (λ o. command_of (un_row o).command ≡ Command.Unary o) [ UnOp.Invert ↦ refl | UnOp.Negate ↦ refl ]
 
 pub compare_command : (o : CmpOp) → command_of (cmp_row o).command ≡ Command.Compare o
 unfolding command_of
 compare_command o =
-    elim o [ CmpOp.Eq ↦ refl | CmpOp.Lt ↦ refl | CmpOp.Leq ↦ refl | CmpOp.Gt ↦ refl | CmpOp.Geq ↦ refl ]
+    elim o as (λ o. command_of (cmp_row o).command ≡ Command.Compare o) [ CmpOp.Eq ↦ refl | CmpOp.Lt ↦ refl | CmpOp.Leq ↦ refl | CmpOp.Gt ↦ refl | CmpOp.Geq ↦ refl ]
 
 -- a command that passes is known
 pub need-known : (c : Command) (v i : ℕ) → need_met (command_row c) v i ≡ true → known c ≡ true
