@@ -11,4 +11,4 @@ check_answer_spec =
     (λ c. search rules)
     (λ c κs. search rules)
     (λ c. rw c.in-Passed.is)
-    (λ c. rw (c.number_of_lem.ensures, c.in-Refused.is)))
+    (λ c. rw (c.number_of-refusal.ensures, c.in-Refused.is)))

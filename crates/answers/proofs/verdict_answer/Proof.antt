@@ -19,4 +19,4 @@ verdict_answer_spec =
     (λ c. search rules)
     (λ c κs. search rules)
     (λ c. rw (c.in-Is.is, byte c.in-Is.holds))
-    (λ c. rw (c.number_of_lem.ensures, c.in-Refused.is)))
+    (λ c. rw (c.number_of-n.ensures, c.in-Refused.is)))

@@ -7,8 +7,8 @@ use Rattle.semantics.specs.Parse.{command_at}
 use Rattle.commands.proofs.next.Statement.{statement}
 use Rattle.commands.proofs.next.Tie as tie
 
-width_is : (c : tie.After-width_of) → c.width_of_lem.result ≡ (command_row (command_at c.args.code.now c.args.at)).width
-width_is c = c.width_of_lem.ensures ∙ ap (λ (d : Command). (command_row d).width) c.command_of-command.ensures
+width_is : (c : tie.After-width_of) → c.width_of.result ≡ (command_row (command_at c.args.code.now c.args.at)).width
+width_is c = c.width_of.ensures ∙ ap (λ (d : Command). (command_row d).width) c.command_of-command.ensures
 
 pub next_spec : {M : Type 1} → statement M
 next_spec =

@@ -40,11 +40,11 @@ module _ (c : tie.After-step invariant-loop-s decreases-loop-s) where
   here = turn.loop-s.s
 
   -- what the step tells
-  told : (r : Stepped) → c.step.result ≡ r → Told code here c.loop-s-test.true turn.loop-s.inv.1 r
-  told r e = step-told code here c.loop-s-test.true turn.loop-s.inv.1 r (sym c.step.ensures ∙ e)
+  told : (r : Stepped) → c.step.result ≡ r → Told code here c.loop-s-test.true turn.loop-s.invariant.1 r
+  told r e = step-told code here c.loop-s-test.true turn.loop-s.invariant.1 r (sym c.step.ensures ∙ e)
 
   goes : walk_from code here.bytes here ≡ walked code
-  goes = turn.loop-s.inv.3
+  goes = turn.loop-s.invariant.3
 
 loop-again : tie.Need-loop-s-preserved invariant-loop-s decreases-loop-s
 loop-again c =

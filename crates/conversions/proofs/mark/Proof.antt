@@ -32,13 +32,13 @@ module _ (t : tie.In-loop-at invariant-loop-at decreases-loop-at) where
   code = (begin a).args.code.now
 
   operands : after code a.loop-at.at ≤ length code
-  operands = loop_operands code _ _ _ a.loop-at.waiting a.loop-at.marks a.loop-at.at a.loop-at.count a.loop-at.indexes a.loop-at.inv t.loop-at-test.taken
+  operands = loop_operands code _ _ _ a.loop-at.waiting a.loop-at.marks a.loop-at.at a.loop-at.count a.loop-at.indexes a.loop-at.invariant t.loop-at-test.true
 
   below : (a.loop-at.count < length a.loop-at.marks) × (a.loop-at.count < max_tokens)
-  below = loop_below code _ _ _ a.loop-at.waiting a.loop-at.marks a.loop-at.at a.loop-at.count a.loop-at.indexes a.loop-at.inv t.loop-at-test.taken
+  below = loop_below code _ _ _ a.loop-at.waiting a.loop-at.marks a.loop-at.at a.loop-at.count a.loop-at.indexes a.loop-at.invariant t.loop-at-test.true
 
   ready : Ready (command_at code a.loop-at.at) a.loop-at.count a.loop-at.indexes a.loop-at.waiting a.loop-at.marks
-  ready = loop_ready code _ _ _ a.loop-at.waiting a.loop-at.marks a.loop-at.at a.loop-at.count a.loop-at.indexes a.loop-at.inv t.loop-at-test.taken
+  ready = loop_ready code _ _ _ a.loop-at.waiting a.loop-at.marks a.loop-at.at a.loop-at.count a.loop-at.indexes a.loop-at.invariant t.loop-at-test.true
 
 returns-2 : tie.Need-returns-in-TooLarge invariant-loop-at decreases-loop-at
 returns-2 c =

@@ -26,7 +26,7 @@ module _ (n : tie.After-next-here) (c : Command) (told : n.next-here.result.comm
   old = marking_in s.args.waiting.now s.args.indexes s.args.marks.now s.args.count
 
   here-ready : Ready c s.args.count s.args.indexes s.args.waiting.now s.args.marks.now
-  here-ready = ready s.args.code.now s.args.at n.next-here.result n.next-here.ensures c told _ _ _ _ s.pre.1
+  here-ready = ready s.args.code.now s.args.at n.next-here.result n.next-here.ensures c told _ _ _ _ s.requires.1
 
   on : (m : Marking) → narrow ((command_row c).tokens (operands_at s.args.code.now s.args.at)) ≡ true → m ≡ settled old c
       → (narrow ((command_row (command_at s.args.code.now s.args.at)).tokens (operands_at s.args.code.now s.args.at)) ≡ true)
@@ -40,14 +40,14 @@ step_spec =
     (λ c κs. c.requires.0)
     (λ c. search rules)
     (λ c. search rules)
-    (λ c κs. let n = c.before in let s = begin n in operands_fit s.args.code.now s.args.at n.next-here.result n.next-here.ensures Command.IdxConst c.in-IdxConst.is s.pre.0)
+    (λ c κs. let n = c.before in let s = begin n in operands_fit s.args.code.now s.args.at n.next-here.result n.next-here.ensures Command.IdxConst c.in-IdxConst.is s.requires.0)
     (λ c.
     let n = c.before.before.before in
     let s = begin n in
     too_large s.args.code.now s.args.at n.next-here.result n.next-here.ensures c.in-IdxConst.is c.read_le64.result c.read_le64.ensures.value (omega (arith, c.if-read_le64-ge-NUM_LIMIT.true)))
-    (λ c κs. let s = begin c.before.before.before.before in (s.pre.1.few, s.pre.1.indexes_fit))
+    (λ c κs. let s = begin c.before.before.before.before in (s.requires.1.few, s.requires.1.indexes_fit))
     (λ c. search rules)
-    (λ c κs. let s = begin c.before.before in (s.pre.1.few, s.pre.1.indexes_fit))
+    (λ c κs. let s = begin c.before.before in (s.requires.1.few, s.requires.1.indexes_fit))
     (λ c. search rules)
     (λ c κs. here-ready c.before.before.before _ c.in-Index.is)
     (λ c. search rules)
@@ -71,13 +71,13 @@ step_spec =
     let told = r.in-IdxConst.is in
     on n Command.IdxConst told _
     (is_narrow s.args.code.now s.args.at n.next-here.result n.next-here.ensures told r.read_le64.result r.read_le64.ensures.value (omega (arith, c.if-read_le64-ge-NUM_LIMIT.false)))
-    (ended s.args.waiting.now s.args.indexes s.args.marks.now s.args.count _ s.pre.1 _ c.push.ensures))
+    (ended s.args.waiting.now s.args.indexes s.args.marks.now s.args.count _ s.requires.1 _ c.push.ensures))
     (λ c. search rules)
     (λ c.
     let n = c.before.before.before.before.before in
     let s = begin n in
     on n Command.CurrIdx c.in-CurrIdx.is _ refl
-    (ended s.args.waiting.now s.args.indexes s.args.marks.now s.args.count _ s.pre.1 _ c.push-in-CurrIdx.ensures))
+    (ended s.args.waiting.now s.args.indexes s.args.marks.now s.args.count _ s.requires.1 _ c.push-in-CurrIdx.ensures))
     (λ c. search rules)
     (λ c. search rules)
     (λ c.

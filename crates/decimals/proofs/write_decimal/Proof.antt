@@ -27,10 +27,10 @@ module _ (t : tie.In-loop-rest invariant-loop-rest decreases-loop-rest) where
   old = set s.args.out.now (length s.args.out.now - 1) a.digit.result
 
   fits : length (decimal s.args.n) ≤ length old
-  fits = rw length-set s.pre
+  fits = rw length-set s.requires
 
   room : 0 < a.loop-rest.start
-  room = partly_room s.args.n old fits a.loop-rest.out a.loop-rest.start a.loop-rest.rest a.loop-rest.inv (omega (arith, t.loop-rest-test.taken))
+  room = partly_room s.args.n old fits a.loop-rest.out a.loop-rest.start a.loop-rest.rest a.loop-rest.invariant (omega (arith, t.loop-rest-test.true))
 
 pub write_decimal_spec : {M : Type 1} → statement M
 write_decimal_spec =

@@ -18,10 +18,10 @@ module _ (a : tie.After-write_decimal-arg-2-1) where
   s = a.before.before.before
 
   is : signed (signed_of s.args.bits) ≡ hyphen ∷ decimal (18446744073709551615 - s.args.bits + 1)
-  is = signed_neg s.args.bits (omega (arith, a.if-bits-lt-HALF.left)) (omega arith)
+  is = signed_neg s.args.bits (omega (arith, a.if-bits-lt-HALF.false)) (omega arith)
 
   room : length (decimal (18446744073709551615 - s.args.bits + 1)) < length s.args.out.now
-  room = omega (arith, rw is at s.pre)
+  room = omega (arith, rw is at s.requires)
 
 begins : (w : tie.After-write_decimal-start) → 0 < w.write_decimal-start.result
 begins w = omega (arith, room w.before, w.write_decimal-start.ensures.ends)

@@ -47,7 +47,7 @@ module _ (c : tie.After-find_rows) where
   noted = c.find_rows.ensures begin.args.places.now begin.args.keys.now
 
   fits : Fitting rows (length begin.args.kinds.now)
-  fits = rows_fit (records begin) rows _ begin.pre.few noted
+  fits = rows_fit (records begin) rows _ begin.requires.few noted
 
 -- the reading
 abbrev found : tie.After-read_condition → tie.After-find_rows
@@ -65,7 +65,7 @@ returns c =
     let d = c.before in
     let f = found d in
     let s = begin f in
-    turned_down (records s) s.args.code.now s.pre (bytes (known f)) (wide (known f)) _
+    turned_down (records s) s.args.code.now s.requires (bytes (known f)) (wide (known f)) _
     (read_none (records s) (sym c.in_default.is ∙ d.read_condition.ensures (records s) (noted f)))
 
 -- and its judgement
@@ -78,15 +78,15 @@ judged-is : (c : tie.After-judge)
 judged-is c =
     let f = found (read (told c)) in
     let s = begin f in
-    c.judge.ensures s.args.numbers.now s.args.places.now s.args.keys.now (noted f) (ready_whole (records s) s.pre.sound)
+    c.judge.ensures s.args.numbers.now s.args.places.now s.args.keys.now (noted f) (ready_whole (records s) s.requires.sound)
 
 returns-2 : tie.Need-returns-in-Broken
 returns-2 c =
     let j = c.before in
     let f = found (read (told j)) in
     let s = begin f in
-    turned_down (records s) s.args.code.now s.pre (bytes (known f)) (wide (known f)) _
-    (rule-broken (records s) s.args.code.now s.pre (bytes (known f)) (wide (known f)) _ (read_is (told j)) _ (sym c.in-Broken.is ∙ judged-is j))
+    turned_down (records s) s.args.code.now s.requires (bytes (known f)) (wide (known f)) _
+    (rule-broken (records s) s.args.code.now s.requires (bytes (known f)) (wide (known f)) _ (read_is (told j)) _ (sym c.in-Broken.is ∙ judged-is j))
 
 emit-requires : tie.Need-emit-requires
 emit-requires c κs =
@@ -94,10 +94,10 @@ emit-requires c κs =
     let j = b.before in
     let f = found (read (told j)) in
     let s = begin f in (
-      ready_numbered (records s) s.pre.sound,
+      ready_numbered (records s) s.requires.sound,
       (
-        ready_whole (records s) s.pre.sound,
-        (code-room (records s) s.args.code.now s.pre (bytes (known f)) (wide (known f)) _ (read_is (told j)) _ (sym b.in-Kept.is ∙ judged-is j), (s.pre.few, noted f)),
+        ready_whole (records s) s.requires.sound,
+        (code-room (records s) s.args.code.now s.requires (bytes (known f)) (wide (known f)) _ (read_is (told j)) _ (sym b.in-Kept.is ∙ judged-is j), (s.requires.few, noted f)),
       ),
     )
 
@@ -108,14 +108,14 @@ returns-3 c =
     let j = b.before in
     let f = found (read (told j)) in
     let s = begin f in
-    code_accepted (records s) s.args.code.now s.pre (bytes (known f)) (wide (known f)) _ (read_is (told j)) _ (sym b.in-Kept.is ∙ judged-is j) _ e.emit.ensures
+    code_accepted (records s) s.args.code.now s.requires (bytes (known f)) (wide (known f)) _ (read_is (told j)) _ (sym b.in-Kept.is ∙ judged-is j) _ e.emit.ensures
 
 pub decode_sound_spec : {M : Type 1} → statement M
 decode_sound_spec =
     tie.close
     (tie.spec
     (λ c. search rules)
-    (λ c κs. let s = start₁ c.before in (ready_numbered (records s) s.pre.sound, s.pre.few))
+    (λ c κs. let s = start₁ c.before in (ready_numbered (records s) s.requires.sound, s.requires.few))
     (λ c κs. fits c.before.before)
     (λ c. search rules)
     (λ c. search rules)

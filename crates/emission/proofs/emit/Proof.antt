@@ -34,14 +34,14 @@ last-command-requires : tie.Need-last_command-last-requires invariant-loop-end d
 last-command-requires c κs =
     let a = c.before in
     let s = start₁ a in
-    (fitting_fewer _ _ _ (rows_fit (records s) _ _ s.pre.1.1.1.0 s.pre.1.1.1.1) a.loop-end.invariant.0, a.loop-end.invariant.0, omega (arith, c.loop-end-test.true))
+    (fitting_fewer _ _ _ (rows_fit (records s) _ _ s.requires.1.1.1.0 s.requires.1.1.1.1) a.loop-end.invariant.0, a.loop-end.invariant.0, omega (arith, c.loop-end-test.true))
 
 -- the piece that is met is a piece of these records
 met-is : (c : tie.After-last_command-last invariant-loop-end decreases-loop-end) → let a = c.before.before in Met (records (start₁ a)) a.loop-end.end c.last_command-last.result
 met-is c =
     let a = c.before.before in
     let s = start₁ a in
-    c.last_command-last.ensures.met s.args.numbers.now s.args.places.now s.args.keys.now (rows-fewer _ _ _ _ s.pre.1.1.1.1 a.loop-end.invariant.0)
+    c.last_command-last.ensures.met s.args.numbers.now s.args.places.now s.args.keys.now (rows-fewer _ _ _ _ s.requires.1.1.1.1 a.loop-end.invariant.0)
 
 enough : (c : tie.After-last_command-last invariant-loop-end decreases-loop-end) → let a = c.before.before in size_of c.last_command-last.result.command ≤ a.loop-end.at
 enough c =
@@ -54,7 +54,7 @@ put-command-requires c κs =
     let m = c.before in
     let a = m.before.before in
     let s = start₁ a in (
-      met-placed (records s) a.loop-end.end m.last_command-last.result (met-is m) a.loop-end.invariant.0 s.pre.1.0 s.pre.0.paired,
+      met-placed (records s) a.loop-end.end m.last_command-last.result (met-is m) a.loop-end.invariant.0 s.requires.1.0 s.requires.0.paired,
       (enough m, omega (arith, a.loop-end.invariant)),
     )
 
@@ -71,7 +71,7 @@ loop-again c =
       omega (arith, a.loop-end.invariant),
       c.put_command.auto.1.1.1.1.0 ∙ a.loop-end.invariant.2,
       subst⁻¹ (λ (n : ℕ). Emitting (records s) s.args.start s.args.code.now m.last_command-last.result.first (a.loop-end.at - n) after) c.size-at.ensures
-          (emitting_next (records s) s.args.start s.args.code.now a.loop-end.end a.loop-end.at a.loop-end.code a.loop-end.invariant.3 a.loop-end.invariant.0 s.pre.1.0
+          (emitting_next (records s) s.args.start s.args.code.now a.loop-end.end a.loop-end.at a.loop-end.code a.loop-end.invariant.3 a.loop-end.invariant.0 s.requires.1.0
           m.loop-end-test.true m.last_command-last.result (met-is m) a.loop-end.invariant.1 after c.put_command.ensures),
     )
 

@@ -56,15 +56,15 @@ loop-again c =
     let grown : a.loop-end.bytes + c.size-bytes.result + 41 * (met c).first ≤ 41 * length (start₁ a).args.kinds.now = omega (arith, c.size-bytes.ensures) in (
       omega arith,
       grown,
-      λ numbers places keys noted whole. judging_next (records a numbers places keys) (start₁ a).args.start a.loop-end.end a.loop-end.bytes a.loop-end.first a.loop-end.later (a.loop-end.inv.2 numbers places keys noted whole) a.loop-end.inv.0 whole
-          c.loop-end-test.true (met c) (m.ensures.met numbers places keys (rows-fewer _ _ _ _ noted a.loop-end.inv.0)) c.IsAmong-later.result c.IsAmong-later.ensures
+      λ numbers places keys noted whole. judging_next (records a numbers places keys) (start₁ a).args.start a.loop-end.end a.loop-end.bytes a.loop-end.first a.loop-end.later (a.loop-end.invariant.2 numbers places keys noted whole) a.loop-end.invariant.0 whole
+          c.loop-end-test.true (met c) (m.ensures.met numbers places keys (rows-fewer _ _ _ _ noted a.loop-end.invariant.0)) c.IsAmong-later.result c.IsAmong-later.ensures
           c.terminal_of-first.result c.terminal_of-first.ensures c.size-bytes.result c.size-bytes.ensures,
     )
 
 add-bytes : tie.Need-overflow_add-bytes invariant-loop-end decreases-loop-end
 add-bytes c =
     let few = size_most (met c).command in
-    omega (arith, c.size-bytes.ensures, (start₁ (at c)).pre.few, (at c).loop-end.invariant)
+    omega (arith, c.size-bytes.ensures, (start₁ (at c)).requires.few, (at c).loop-end.invariant)
 
 module _ (a : tie.At-loop-end invariant-loop-end decreases-loop-end) (numbers places keys : List ℕ)
     (noted : Rows (records a numbers places keys) (start₁ a).args.rows.now (length (start₁ a).args.kinds.now)) (whole : Whole (start₁ a).args.kinds.now places keys) where

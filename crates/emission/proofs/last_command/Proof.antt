@@ -27,10 +27,10 @@ module _ (c : tie.After-width) where
   end = start.args.end
 
   own : (1 ≤ c.width.result) × (c.width.result ≤ end)
-  own = own_tokens (rows start) end end _ _ start.pre.0 (omega arith) c.row_before-row.ensures c.if-row-ge-ROWS.false c.width.ensures
+  own = own_tokens (rows start) end end _ _ start.requires.0 (omega arith) c.row_before-row.ensures c.if-row-ge-ROWS.false c.width.ensures
 
   found : (r : Records) → Rows r (rows start) end → At (token_at r) end c.row_before-row.result (end - c.width.result)
-  found = noted_at (rows start) end end _ _ start.pre.0 (omega arith) c.row_before-row.ensures c.if-row-ge-ROWS.false c.width.ensures
+  found = noted_at (rows start) end end _ _ start.requires.0 (omega arith) c.row_before-row.ensures c.if-row-ge-ROWS.false c.width.ensures
 
 returns : tie.Need-returns-then-row-ge-ROWS
 returns c =
@@ -71,7 +71,7 @@ last_command_spec =
     returns
     (λ c κs. search rules)
     (λ c. (own c).1)
-    (λ c κs. omega (arith, (start c.before).pre.1))
+    (λ c κs. omega (arith, (start c.before).requires.1))
     (λ c. current c.before c.if-kind_before-eq-CURR_INP.true)
     returns-2
     (λ c κs. c.if-row-ge-ROWS.false)

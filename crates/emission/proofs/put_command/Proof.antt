@@ -34,17 +34,17 @@ module _ (c : tie.After-width_of-width) where
   some = sym c.is_known.ensures ∙ not-false _ c.if-not-is_known.false-raw
 
   room : (command_row begin.args.last.command).width + 1 ≤ begin.args.at
-  room = omega (arith, size-known (records begin) begin.args.last.command begin.args.last.first some, begin.pre.1.0)
+  room = omega (arith, size-known (records begin) begin.args.last.command begin.args.last.first some, begin.requires.1.0)
 
   -- what is put is the piece, with the byte and the operands as they were read
-  written : (w : ℕ) → c.width_of_lem.result ≡ w → (command_row begin.args.last.command).width ≡ w
-  written w e = sym c.width_of_lem.ensures ∙ e
+  written : (w : ℕ) → c.width_of-width.result ≡ w → (command_row begin.args.last.command).width ≡ w
+  written w e = sym c.width_of-width.ensures ∙ e
 
 returns-2 : tie.Need-returns-then-width-eq0
 returns-2 c =
     let w = c.before in
     let s = begin w in
-    command-put s.args.code.now s.args.at _ (omega (arith, room w)) s.pre.1.1
+    command-put s.args.code.now s.args.at _ (omega (arith, room w)) s.requires.1.1
     ∙ ap (put s.args.code.now s.args.at) (ap (λ (b : ℕ). b ∷ []) w.byte_of-byte.ensures ∙ sym (one_placed (records s) s.args.last.command s.args.last.first (some w) (written w 0 c.if-width-eq0.true)))
 
 put-number-requires : tie.Need-put_number-requires
@@ -69,7 +69,7 @@ module _ (c : tie.After-lead) where
 
   forty : (command_row start.args.last.command).width ≡ 40
   forty =
-      oracle-width start.args.last.command (λ e. c.if-width-eq0.false (wide.width_of_lem.ensures ∙ e)) (λ e. c.if-width-eq-NUMBER_BYTES.false (wide.width_of_lem.ensures ∙ e))
+      oracle-width start.args.last.command (λ e. c.if-width-eq0.false (wide.width_of-width.ensures ∙ e)) (λ e. c.if-width-eq-NUMBER_BYTES.false (wide.width_of-width.ensures ∙ e))
 
   abbrev form : ℕ
   form = start.args.last.first + c.lead.result
@@ -80,13 +80,13 @@ module _ (c : tie.After-lead) where
   there : (form + 7 < length start.args.numbers.now) × (form + 7 < length start.args.places.now) × (get_or start.args.places.now (form + 7) 0 + 32 ≤ length start.args.keys.now)
   there =
       subst⁻¹ (λ (n : ℕ). (n + 7 < length start.args.numbers.now) × (n + 7 < length start.args.places.now) × (get_or start.args.places.now (n + 7) 0 + 32 ≤ length start.args.keys.now)) form-is
-      (start.pre.0.oracle forty)
+      (start.requires.0.oracle forty)
 
 put-oracle-requires : tie.Need-put_oracle-requires
 put-oracle-requires c κs =
     let l = c.before.before.before.before in
     let s = start l in
-    (omega (arith, room (wide l), forty l), s.pre.1.1, subst⁻¹ (λ (n : ℕ). n + 32 ≤ length s.args.keys.now) c.u32_to_usize-place.ensures (there l).2)
+    (omega (arith, room (wide l), forty l), s.requires.1.1, subst⁻¹ (λ (n : ℕ). n + 32 ≤ length s.args.keys.now) c.u32_to_usize-place.ensures (there l).2)
 
 returns-4 : tie.Need-returns
 returns-4 c =
@@ -108,7 +108,7 @@ put_command_spec =
     (λ c κs. search rules)
     (λ c κs. search rules)
     (λ c. omega (arith, room c.before))
-    (λ c. omega (arith, room c.before, (begin c.before).pre.1))
+    (λ c. omega (arith, room c.before, (begin c.before).requires.1))
     (λ c. search rules)
     returns-2
     (λ c. search rules)

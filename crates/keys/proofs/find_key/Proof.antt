@@ -47,7 +47,7 @@ is-same-key-requires : tie.Need-is_same_key-requires invariant-loop-j decreases-
 is-same-key-requires c κs =
     let a = c.before.before in
     let s = begin a in
-    (position_inside (code a) (positions a) (count a) s.pre.1 a.loop-j.j c.loop-j-test.true, s.pre.0)
+    (position_inside (code a) (positions a) (count a) s.requires.1 a.loop-j.j c.loop-j-test.true, s.requires.0)
 
 returns : tie.Need-returns-then-is_same_key invariant-loop-j decreases-loop-j
 returns c =
@@ -79,8 +79,8 @@ find_key_spec =
     invariant-loop-j
     decreases-loop-j
     loop-holds
-    (λ c. omega (arith, (begin c.before).pre.1.there, c.loop-j-test.true, (begin c.before).good))
-    (λ c. omega (arith, (begin c.before.before).pre.1.there, c.loop-j-test.true))
+    (λ c. omega (arith, (begin c.before).requires.1.there, c.loop-j-test.true, (begin c.before).good))
+    (λ c. omega (arith, (begin c.before.before).requires.1.there, c.loop-j-test.true))
     (λ c. omega (arith, c.shared_slice_known-in-loop-j-1.given c.loop-j.j))
     is-same-key-requires
     returns

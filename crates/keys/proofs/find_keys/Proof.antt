@@ -49,9 +49,9 @@ note-key-requires c κs =
     let l = (head n).loop-at in
     let s = start n in (
       omega (arith, operands n.before, operands_at_lem n, next-at n),
-      s.pre.1,
-      noting_room s.args.code.now (length s.args.positions.now) l.positions l.at l.count l.inv n.loop-at-test.true,
-      l.inv.noted,
+      s.requires.1,
+      noting_room s.args.code.now (length s.args.positions.now) l.positions l.at l.count l.invariant n.loop-at-test.true,
+      l.invariant.noted,
     )
 
 loop-again : tie.Need-loop-at-preserved invariant-loop-at decreases-loop-at
@@ -59,7 +59,7 @@ loop-again c =
     let n = c.before.before.before.before.before in
     let l = (head n).loop-at in
     let s = start n in
-    noting_next s.args.code.now (length s.args.positions.now) l.positions l.at l.count l.inv n.loop-at-test.true
+    noting_next s.args.code.now (length s.args.positions.now) l.positions l.at l.count l.invariant n.loop-at-test.true
     n.next-here.result n.next-here.ensures _ _ c.note_key-count.ensures
 
 pub find_keys_spec : {M : Type 1} → statement M

@@ -26,7 +26,7 @@ returns c =
     let s = begin t.before in
     let l = t.loop-i in
     sym
-    (alike_not s.args.code.now s.args.a s.args.b l.i (omega (arith, t.loop-i-test.true)) s.pre.0 s.pre.1 _ _
+    (alike_not s.args.code.now s.args.a s.args.b l.i (omega (arith, t.loop-i-test.true)) s.requires.0 s.requires.1 _ _
     c.read_le64.ensures c.read_le64-in-loop-i.ensures c.if-read_le64.true)
     ∙ l.invariant.1
 
@@ -37,7 +37,7 @@ loop-again c =
     let l = t.loop-i in (
       omega (arith, t.loop-i-test.true),
       sym
-          (alike_so_far s.args.code.now s.args.a s.args.b l.i (omega (arith, t.loop-i-test.true)) s.pre.0 s.pre.1 _ _
+          (alike_so_far s.args.code.now s.args.a s.args.b l.i (omega (arith, t.loop-i-test.true)) s.requires.0 s.requires.1 _ _
           c.read_le64.ensures c.read_le64-in-loop-i.ensures c.if-read_le64.false)
           ∙ l.invariant.1,
     )
@@ -55,11 +55,11 @@ is_same_key_spec =
     decreases-loop-i
     loop-holds
     (λ c. omega (arith, c.loop-i-test.true))
-    (λ c. omega (arith, c.loop-i-test.true, (begin c.before).pre.0, (begin c.before).good))
-    (λ c κs. omega (arith, c.loop-i-test.true, (begin c.before).pre.0))
+    (λ c. omega (arith, c.loop-i-test.true, (begin c.before).requires.0, (begin c.before).good))
+    (λ c κs. omega (arith, c.loop-i-test.true, (begin c.before).requires.0))
     (λ c. omega (arith, c.loop-i-test.true))
-    (λ c. omega (arith, c.loop-i-test.true, (begin c.before.before).pre.1, (begin c.before.before).good))
-    (λ c κs. omega (arith, c.loop-i-test.true, (begin c.before.before).pre.1))
+    (λ c. omega (arith, c.loop-i-test.true, (begin c.before.before).requires.1, (begin c.before.before).good))
+    (λ c κs. omega (arith, c.loop-i-test.true, (begin c.before.before).requires.1))
     returns
     (λ c. omega arith)
     (λ c. omega arith)

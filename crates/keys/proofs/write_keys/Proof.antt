@@ -38,17 +38,17 @@ module _ (a : tie.At-loop-j invariant-loop-j decreases-loop-j) where
 
   long : length a.loop-j.keys ≡ length begin.args.keys.now
   long =
-      let fits = joined-front code positions count begin.pre.0 a.loop-j.j a.loop-j.inv.0 in
-      ap length a.loop-j.inv.1
-      ∙ length_over (joined (keys_at code positions a.loop-j.j)) begin.args.keys.now (omega (arith, fits, begin.pre.1, a.loop-j.inv.0))
+      let fits = joined-front code positions count begin.requires.0 a.loop-j.j a.loop-j.invariant.0 in
+      ap length a.loop-j.invariant.1
+      ∙ length_over (joined (keys_at code positions a.loop-j.j)) begin.args.keys.now (omega (arith, fits, begin.requires.1, a.loop-j.invariant.0))
 
 copy-requires : tie.Need-copy-requires invariant-loop-j decreases-loop-j
 copy-requires c κs =
     let t = c.before.before in
     let a = t.before in
     let s = begin a in
-    let inside = position_inside (code a) (positions a) (count a) s.pre.0 a.loop-j.j t.loop-j-test.true in
-    (omega (arith, inside), omega (arith, long a, s.pre.1, t.loop-j-test.true))
+    let inside = position_inside (code a) (positions a) (count a) s.requires.0 a.loop-j.j t.loop-j-test.true in
+    (omega (arith, inside), omega (arith, long a, s.requires.1, t.loop-j-test.true))
 
 loop-again : tie.Need-loop-j-preserved invariant-loop-j decreases-loop-j
 loop-again c =
@@ -57,7 +57,7 @@ loop-again c =
     let s = begin a in (
       omega (arith, t.loop-j-test.true),
       rw c.copy.ensures
-          (copied (code a) (positions a) (count a) s.pre.0 s.args.keys.now a.loop-j.keys a.loop-j.j t.loop-j-test.true a.loop-j.invariant.1),
+          (copied (code a) (positions a) (count a) s.requires.0 s.args.keys.now a.loop-j.keys a.loop-j.j t.loop-j-test.true a.loop-j.invariant.1),
     )
 
 returns : tie.Need-returns invariant-loop-j decreases-loop-j
@@ -72,10 +72,10 @@ write_keys_spec =
     invariant-loop-j
     decreases-loop-j
     loop-holds
-    (λ c. omega (arith, (begin c.before).pre.1, c.loop-j-test.true, (begin c.before).good))
-    (λ c. omega (arith, (begin c.before.before).pre.0.there, c.loop-j-test.true))
+    (λ c. omega (arith, (begin c.before).requires.1, c.loop-j-test.true, (begin c.before).good))
+    (λ c. omega (arith, (begin c.before.before).requires.0.there, c.loop-j-test.true))
     (λ c. omega (arith, c.shared_slice_known-in-loop-j-1.given c.loop-j.j))
-    (λ c. omega (arith, (begin c.before.before.before).pre.1, c.loop-j-test.true, (begin c.before.before.before).good))
+    (λ c. omega (arith, (begin c.before.before.before).requires.1, c.loop-j-test.true, (begin c.before.before.before).good))
     copy-requires
     (λ c. omega arith)
     (λ c. omega arith)

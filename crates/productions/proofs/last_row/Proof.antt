@@ -55,7 +55,7 @@ several c κs =
     let a = c.before.before.before.before in
     let s = begin a in
     let low = c.if-row-ge-ROWS.false in
-    ((s.pre.paired, s.pre.within), (low, omega (arith, (widths _ low).0, c.width-n.ensures, c.if-n-eq1.false)))
+    ((s.requires.paired, s.requires.within), (low, omega (arith, (widths _ low).0, c.width-n.ensures, c.if-n-eq1.false)))
 
 returns-5 : tie.Need-returns-then-ends_with
 returns-5 c places keys =

@@ -60,14 +60,14 @@ module _ (t : ℕ) (a : lts.At-loop-count (called t) (pre t) read-index.Post Inv
   last = a.args.last
 
   abbrev fits : Fitting rows last
-  fits = a.pre.1
+  fits = a.requires.1
 
   nothing_read : ((r : Records) → Rows r rows last → Reading.Nothing ≡ indexes a.loop-count.count (before (token_at r) a.loop-count.end)) → Answers rows last Reading.Nothing read
-  nothing_read e = loop_nothing indexes rows last read one a.loop-count.end a.loop-count.count a.loop-count.inv e
+  nothing_read e = loop_nothing indexes rows last read one a.loop-count.end a.loop-count.count a.loop-count.invariant e
 
   next : (end count : ℕ) → end ≤ a.loop-count.end → count + end ≤ a.loop-count.count + a.loop-count.end
       → ((r : Records) → Rows r rows last → indexes a.loop-count.count (before (token_at r) a.loop-count.end) ≡ indexes count (before (token_at r) end)) → Loop indexes rows last end count
-  next end count h room e = loop_turn indexes rows last a.loop-count.end a.loop-count.count end count a.loop-count.inv h room e
+  next end count h room e = loop_turn indexes rows last a.loop-count.end a.loop-count.count end count a.loop-count.invariant h room e
 
 -- whose row is told
 module _ (t : ℕ) (c : lts.After-row_before-row (called t) (pre t) read-index.Post Inv decreases-loop-count) where
@@ -75,7 +75,7 @@ module _ (t : ℕ) (c : lts.After-row_before-row (called t) (pre t) read-index.P
   turn = c.before.before
 
   row_is : (r : Records) → Rows r (rows t turn) (last t turn) → c.row_before-row.result ≡ row_found (last_row (before (token_at r) turn.loop.end))
-  row_is r p = c.row_before-row.ensures ∙ p.noted turn.loop.end turn.loop.inv.low
+  row_is r p = c.row_before-row.ensures ∙ p.noted turn.loop.end turn.loop.invariant.low
 
 -- and whose width is
 module _ (t : ℕ) (w : lts.After-width-end (called t) (pre t) read-index.Post Inv decreases-loop-count) where
@@ -86,7 +86,7 @@ module _ (t : ℕ) (w : lts.After-width-end (called t) (pre t) read-index.Post I
   at = turn t row
 
   abbrev some : 0 < at.loop.count
-  some = row.before.loop-test.taken
+  some = row.before.loop-test.true
 
   abbrev k : ℕ
   k = row.row_before.result
@@ -95,10 +95,10 @@ module _ (t : ℕ) (w : lts.After-width-end (called t) (pre t) read-index.Post I
   start = at.loop.end - w.width-end.result
 
   own : (1 ≤ w.width-end.result) × (w.width-end.result ≤ at.loop.end)
-  own = own_tokens (rows t at) (last t at) at.loop.end k _ (fits t at) at.loop.inv.low row.row_before.ensures (omega (arith, w.if-row-ge-BETWEEN.left)) w.width-end.ensures
+  own = own_tokens (rows t at) (last t at) at.loop.end k _ (fits t at) at.loop.invariant.low row.row_before.ensures (omega (arith, w.if-row-ge-BETWEEN.false)) w.width-end.ensures
 
   found : (r : Records) → Rows r (rows t at) (last t at) → At (token_at r) at.loop.end k start
-  found = noted_at (rows t at) (last t at) at.loop.end k _ (fits t at) at.loop.inv.low row.row_before.ensures (omega (arith, w.if-row-ge-BETWEEN.left)) w.width-end.ensures
+  found = noted_at (rows t at) (last t at) at.loop.end k _ (fits t at) at.loop.invariant.low row.row_before.ensures (omega (arith, w.if-row-ge-BETWEEN.false)) w.width-end.ensures
 
 -- the right operand is read
 module _ (t : ℕ) (c : lts.In-Read (called t) (pre t) read-index.Post Inv decreases-loop-count) where
@@ -140,29 +140,29 @@ returns-3 t c = let right = c.before in let w = right.before.before.before in
     (right.read_index.ensures.right r (rows-fewer r _ _ _ p (omega (arith, own t w, (at t w).loop.invariant.low)))) c.in_default.is _ (some t w)
 
 between-requires : (t : ℕ) → lts.Need-row_before-requires (called t) (pre t) read-index.Post Inv decreases-loop-count
-between-requires t c κs = let w = wide t c in omega (arith, low t c, (at t w).loop.inv.low, (fits t (at t w)).few)
+between-requires t c κs = let w = wide t c in omega (arith, low t c, (at t w).loop.invariant.low, (fits t (at t w)).few)
 
 returns-4 : (t : ℕ) → lts.Need-returns-then-row_before-ne-BETWEEN (called t) (pre t) read-index.Post Inv decreases-loop-count
 returns-4 t c =
     let b = c.before in let k = b.before in let w = wide t k in let right = k.before in
-    let l = (at t w).loop.inv.low in
+    let l = (at t w).loop.invariant.low in
     nothing_read t (at t w) λ r p.
-    unconverted r _ _ _ (found t w r p) right.if-row-lt-INDEX_MUL.false w.if-row-ge-BETWEEN.left _
+    unconverted r _ _ _ (found t w r p) right.if-row-lt-INDEX_MUL.false w.if-row-ge-BETWEEN.false _
     (right.read_index.ensures.right r (rows-fewer r _ _ _ p (omega (arith, own t w, l)))) _ k.in-Read.is _
     (b.row_before.ensures ∙ p.noted _ (omega (arith, low t k, l))) c.if-row_before-ne-BETWEEN.true _ (some t w)
 
 sub-between : (t : ℕ) → lts.Need-overflow_sub-end-in-loop-count (called t) (pre t) read-index.Post Inv decreases-loop-count
 sub-between t c =
     let b = c.before in let k = b.before in let w = wide t k in
-    between_there (rows t (at t w)) (last t (at t w)) _ _ (fits t (at t w)) (omega (arith, low t k, (at t w).loop.inv.low)) b.row_before.ensures c.if-row_before-ne-BETWEEN.false
+    between_there (rows t (at t w)) (last t (at t w)) _ _ (fits t (at t w)) (omega (arith, low t k, (at t w).loop.invariant.low)) b.row_before.ensures c.if-row_before-ne-BETWEEN.false
 
 again-3 : (t : ℕ) → lts.Need-loop-count-preserved (called t) (pre t) read-index.Post Inv decreases-loop-count
 again-3 t c =
     let b = c.before in let k = b.before in let w = wide t k in let right = k.before in
-    let l = (at t w).loop.inv.low in let h = own t w in let m = low t k in
+    let l = (at t w).loop.invariant.low in let h = own t w in let m = low t k in
     let e : middle t k ≤ last t (at t w) = omega (arith, m, l) in
     next t (at t w) _ _ (omega (arith, m, h)) (omega (arith, m, h)) λ r p.
-    converted-left r _ _ _ (found t w r p) right.if-row-lt-INDEX_MUL.false w.if-row-ge-BETWEEN.left _
+    converted-left r _ _ _ (found t w r p) right.if-row-lt-INDEX_MUL.false w.if-row-ge-BETWEEN.false _
     (right.read_index.ensures.right r (rows-fewer r _ _ _ p (omega (arith, h, l)))) _ k.in-Read.is _
     (b.row_before.ensures ∙ p.noted _ e) _ (between_at (rows t (at t w)) (last t (at t w)) _ _ (fits t (at t w)) e b.row_before.ensures c.if-row_before-ne-BETWEEN.false r p) _ (some t w)
 

@@ -61,14 +61,14 @@ module _ (t : ℕ) (a : lts.At-loop-count (called t) (pre t) read-value.Post Inv
   last = a.args.last
 
   abbrev fits : Fitting rows last
-  fits = a.pre.1
+  fits = a.requires.1
 
   nothing_read : ((r : Records) → Rows r rows last → Reading.Nothing ≡ values a.loop-count.count (before (token_at r) a.loop-count.end)) → Answers rows last Reading.Nothing read
-  nothing_read e = loop_nothing values rows last read one a.loop-count.end a.loop-count.count a.loop-count.inv e
+  nothing_read e = loop_nothing values rows last read one a.loop-count.end a.loop-count.count a.loop-count.invariant e
 
   next : (end count : ℕ) → end ≤ a.loop-count.end → count + end ≤ a.loop-count.count + a.loop-count.end
       → ((r : Records) → Rows r rows last → values a.loop-count.count (before (token_at r) a.loop-count.end) ≡ values count (before (token_at r) end)) → Loop values rows last end count
-  next end count h room e = loop_turn values rows last a.loop-count.end a.loop-count.count end count a.loop-count.inv h room e
+  next end count h room e = loop_turn values rows last a.loop-count.end a.loop-count.count end count a.loop-count.invariant h room e
 
 -- whose row and width are told
 module _ (t : ℕ) (w : lts.After-width-end (called t) (pre t) read-value.Post Inv decreases-loop-count) where
@@ -79,7 +79,7 @@ module _ (t : ℕ) (w : lts.After-width-end (called t) (pre t) read-value.Post I
   at = row.before.before
 
   abbrev some : 0 < at.loop.count
-  some = row.before.loop-test.taken
+  some = row.before.loop-test.true
 
   abbrev k : ℕ
   k = row.row_before.result
@@ -88,16 +88,16 @@ module _ (t : ℕ) (w : lts.After-width-end (called t) (pre t) read-value.Post I
   start = at.loop.end - w.width-end.result
 
   own : (1 ≤ w.width-end.result) × (w.width-end.result ≤ at.loop.end)
-  own = own_tokens (rows t at) (last t at) at.loop.end k _ (fits t at) at.loop.inv.low row.row_before.ensures (omega (arith, w.if-row-ge-INDEXES.left)) w.width-end.ensures
+  own = own_tokens (rows t at) (last t at) at.loop.end k _ (fits t at) at.loop.invariant.low row.row_before.ensures (omega (arith, w.if-row-ge-INDEXES.false)) w.width-end.ensures
 
   found : (r : Records) → Rows r (rows t at) (last t at) → At (token_at r) at.loop.end k start
-  found = noted_at (rows t at) (last t at) at.loop.end k _ (fits t at) at.loop.inv.low row.row_before.ensures (omega (arith, w.if-row-ge-INDEXES.left)) w.width-end.ensures
+  found = noted_at (rows t at) (last t at) at.loop.end k _ (fits t at) at.loop.invariant.low row.row_before.ensures (omega (arith, w.if-row-ge-INDEXES.false)) w.width-end.ensures
 
   operand-fits : Fitting (rows t at) start
-  operand-fits = fitting_fewer (rows t at) (last t at) start (fits t at) (omega (arith, own, at.loop.inv.low))
+  operand-fits = fitting_fewer (rows t at) (last t at) start (fits t at) (omega (arith, own, at.loop.invariant.low))
 
   operand_rows : (r : Records) → Rows r (rows t at) (last t at) → Rows r (rows t at) start
-  operand_rows r p = rows-fewer r (rows t at) (last t at) start p (omega (arith, own, at.loop.inv.low))
+  operand_rows r p = rows-fewer r (rows t at) (last t at) start p (omega (arith, own, at.loop.invariant.low))
 
 -- an index is read
 module _ (t : ℕ) (c : lts.In-Read (called t) (pre t) read-value.Post Inv decreases-loop-count) where

@@ -36,13 +36,13 @@ module _ (c : tie.After-width) where
   start = size begin - c.width.result
 
   own : c.width.result ≤ size begin
-  own = (own_tokens (rows begin) (size begin) (size begin) _ _ begin.pre (omega arith) row.row_before-row.ensures c.if-row-ge-ROWS.false c.width.ensures).1
+  own = (own_tokens (rows begin) (size begin) (size begin) _ _ begin.requires (omega arith) row.row_before-row.ensures c.if-row-ge-ROWS.false c.width.ensures).1
 
   found : (r : Records) → Rows r (rows begin) (size begin) → At (token_at r) (size begin) row.row_before-row.result start
-  found = noted_at (rows begin) (size begin) (size begin) _ _ begin.pre (omega arith) row.row_before-row.ensures c.if-row-ge-ROWS.false c.width.ensures
+  found = noted_at (rows begin) (size begin) (size begin) _ _ begin.requires (omega arith) row.row_before-row.ensures c.if-row-ge-ROWS.false c.width.ensures
 
   operand : (n : ℕ) → n ≤ start → Fitting (rows begin) n
-  operand n h = fitting_fewer (rows begin) (size begin) n begin.pre (omega arith)
+  operand n h = fitting_fewer (rows begin) (size begin) n begin.requires (omega arith)
 
   operand_rows : (n : ℕ) → n ≤ start → (r : Records) → Rows r (rows begin) (size begin) → Rows r (rows begin) n
   operand_rows n h r p = rows-fewer r (rows begin) (size begin) n p (omega arith)

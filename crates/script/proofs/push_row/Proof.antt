@@ -21,14 +21,14 @@ module _ (a : tie.At-loop-j invariant-loop-j decreases-loop-j) where
   s = a.before
 
   long : length a.loop-j.out ≡ length s.args.out.now
-  long = front_length a.loop-j.inv.1 (omega (arith, a.loop-j.inv.0, s.pre))
+  long = front_length a.loop-j.invariant.1 (omega (arith, a.loop-j.invariant.0, s.requires))
 
 loop-again : tie.Need-loop-j-preserved invariant-loop-j decreases-loop-j
 loop-again c =
     let t = c.before in
     let a = t.before in
     let b = s a in
-    (omega (arith, t.loop-j-test.true), front-next b.args.t1.bytes a.loop-j.j (omega (arith, b.pre, t.loop-j-test.true)) (omega (arith, b.pre, t.loop-j-test.true)) a.loop-j.invariant.1)
+    (omega (arith, t.loop-j-test.true), front-next b.args.t1.bytes a.loop-j.j (omega (arith, b.requires, t.loop-j-test.true)) (omega (arith, b.requires, t.loop-j-test.true)) a.loop-j.invariant.1)
 
 pub push_row_spec : {M : Type 1} → statement M
 push_row_spec =
@@ -37,9 +37,9 @@ push_row_spec =
     invariant-loop-j
     decreases-loop-j
     (λ c. (omega arith, front_none c.args.out.now))
-    (λ c. omega (arith, (s c.before).pre, c.loop-j-test.true))
-    (λ c. let t = c.before in omega (arith, (s t.before).pre, t.loop-j-test.true, long t.before))
-    (λ c. let t = c.before in omega (arith, (s t.before).pre, t.loop-j-test.true))
+    (λ c. omega (arith, (s c.before).requires, c.loop-j-test.true))
+    (λ c. let t = c.before in omega (arith, (s t.before).requires, t.loop-j-test.true, long t.before))
+    (λ c. let t = c.before in omega (arith, (s t.before).requires, t.loop-j-test.true))
     (λ c. let t = c.before in omega (arith, t.loop-j-test.true))
     loop-again
     (λ c. long c.before)

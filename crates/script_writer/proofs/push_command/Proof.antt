@@ -46,7 +46,7 @@ module _ (q : tie.After-piece_of) where
 
   -- with the byte more there is room for all
   room : length own + length (converted_bytes s.args.marked) ≤ length s.args.out.now
-  room = rw (all-bytes, length-append own (converted_bytes s.args.marked)) at s.pre.1
+  room = rw (all-bytes, length-append own (converted_bytes s.args.marked)) at s.requires.1
 
 -- they are written
 module _ (w : tie.After-push_piece-own) where

@@ -28,16 +28,16 @@ module _ (t : tie.Then-opcode-ne0) where
   operands = operand_bytes command s.args.code.now (s.args.at + 1)
 
   single : ((command_row command).width ≡ 0) × ((n : List ℕ) → script ((command_row command).tokens n) ≡ t.single_opcode-opcode.result ∷ [])
-  single = t.single_opcode-opcode.ensures (omega (arith, t.if-opcode-ne0.taken))
+  single = t.single_opcode-opcode.ensures (omega (arith, t.if-opcode-ne0.true))
 
   bytes : script (tokens_of command operands s.args.marked) ≡ t.single_opcode-opcode.result ∷ []
   bytes =
       command-bytes command operands s.args.marked
-      ∙ without_converted (script ((command_row command).tokens operands)) s.args.marked (not-true _ t.if-not-marked.taken)
+      ∙ without_converted (script ((command_row command).tokens operands)) s.args.marked (not-true _ t.if-not-marked.true-raw)
       ∙ single.1 operands
 
   room : 1 ≤ length s.args.out.now
-  room = rw bytes at s.pre.1
+  room = rw bytes at s.requires.1
 
 pub push_next_spec : {M : Type 1} → statement M
 push_next_spec =

@@ -33,7 +33,7 @@ module _ (p : tie.After-push_row-n) where
   one = rw p.two_opcodes-opening.ensures.is at p.push_row-n.ensures
 
   long₁ : length now₁ ≡ length out
-  long₁ = front_length one (omega (arith, one.long, s.pre.1))
+  long₁ = front_length one (omega (arith, one.long, s.requires.1))
 
 -- after the time
 module _ (q : tie.After-push_bytes8-n) where
@@ -59,7 +59,7 @@ module _ (q : tie.After-push_bytes8-n) where
   count₂ = sym two.long ∙ rw (length-append (bytes₁ p₂) (script (bytes8 time ∷ []))) (omega (arith, constant_long time))
 
   long₂ : length now₂ ≡ length (out p₂)
-  long₂ = front_length two (omega (arith, count₂, (s p₂).pre.1))
+  long₂ = front_length two (omega (arith, count₂, (s p₂).requires.1))
 
 -- after the opcodes between
 module _ (r : tie.After-push_row-n-2) where
@@ -85,7 +85,7 @@ module _ (r : tie.After-push_row-n-2) where
   count₃ = omega (arith, count₂ q₃, tested.long)
 
   long₃ : length now₃ ≡ length (out (p₂ q₃))
-  long₃ = front_length three (omega (arith, count₃, (s (p₂ q₃)).pre.1))
+  long₃ = front_length three (omega (arith, count₃, (s (p₂ q₃)).requires.1))
 
 -- after the key
 module _ (k : tie.After-push_bytes32-n) where
@@ -108,10 +108,10 @@ module _ (k : tie.After-push_bytes32-n) where
   four = front_rest (three r₄) k.push_bytes32-n.ensures
 
   count₄ : n₄ ≡ 48
-  count₄ = omega (arith, count₃ r₄, k.push_bytes32-n.ensures.long, key-bytes_long key (part_length s₄.args.code.now s₄.args.at 32 (omega (arith, s₄.pre.0))))
+  count₄ = omega (arith, count₃ r₄, k.push_bytes32-n.ensures.long, key-bytes_long key (part_length s₄.args.code.now s₄.args.at 32 (omega (arith, s₄.requires.0))))
 
   long₄ : length now₄ ≡ length s₄.args.out.now
-  long₄ = front_length four (omega (arith, count₄, s₄.pre.1))
+  long₄ = front_length four (omega (arith, count₄, s₄.requires.1))
 
 -- after all
 module _ (e : tie.After-push_row-n-3) where
@@ -142,20 +142,20 @@ push_oracle_spec =
     (λ c. let p = c.before.before in omega (arith, (one p).long, long₁ p, (s p).requires.1))
     (λ c κs. let p = c.before.before.before in front-room 9 (one p) (omega (arith, (one p).long, (s p).requires.1)))
     (λ c. let q = c.before.before in omega (arith, count₂ q))
-    (λ c. let q = c.before.before in omega (arith, count₂ q, long₂ q, (s (p₂ q)).pre.1))
-    (λ c. let q = c.before.before in omega (arith, count₂ q, long₂ q, (s (p₂ q)).pre.1))
-    (λ c. let q = c.before.before in omega (arith, count₂ q, long₂ q, (s (p₂ q)).pre.1))
-    (λ c κs. let q = c.before.before.before in row_fits _ _ _ (p₂ q).four_opcodes-test.ensures (front-room 4 (two q) (omega (arith, count₂ q, (s (p₂ q)).pre.1))))
+    (λ c. let q = c.before.before in omega (arith, count₂ q, long₂ q, (s (p₂ q)).requires.1))
+    (λ c. let q = c.before.before in omega (arith, count₂ q, long₂ q, (s (p₂ q)).requires.1))
+    (λ c. let q = c.before.before in omega (arith, count₂ q, long₂ q, (s (p₂ q)).requires.1))
+    (λ c κs. let q = c.before.before.before in row_fits _ _ _ (p₂ q).four_opcodes-test.ensures (front-room 4 (two q) (omega (arith, count₂ q, (s (p₂ q)).requires.1))))
     (λ c. let r = c.before.before in omega (arith, count₃ r))
-    (λ c. let r = c.before.before in omega (arith, count₃ r, long₃ r, (s (p₂ (q₃ r))).pre.1))
-    (λ c. let r = c.before.before in omega (arith, count₃ r, long₃ r, (s (p₂ (q₃ r))).pre.1))
-    (λ c. let r = c.before.before in omega (arith, count₃ r, long₃ r, (s (p₂ (q₃ r))).pre.1))
-    (λ c κs. let r = c.before.before.before in let b = s (p₂ (q₃ r)) in (omega (arith, b.pre.0), front-room 33 (three r) (omega (arith, count₃ r, b.pre.1))))
+    (λ c. let r = c.before.before in omega (arith, count₃ r, long₃ r, (s (p₂ (q₃ r))).requires.1))
+    (λ c. let r = c.before.before in omega (arith, count₃ r, long₃ r, (s (p₂ (q₃ r))).requires.1))
+    (λ c. let r = c.before.before in omega (arith, count₃ r, long₃ r, (s (p₂ (q₃ r))).requires.1))
+    (λ c κs. let r = c.before.before.before in let b = s (p₂ (q₃ r)) in (omega (arith, b.requires.0), front-room 33 (three r) (omega (arith, count₃ r, b.requires.1))))
     (λ c. let k = c.before.before in omega (arith, count₄ k))
     (λ c. let k = c.before.before in omega (arith, count₄ k, long₄ k, (s₄ k).requires.1))
     (λ c. let k = c.before.before in omega (arith, count₄ k, long₄ k, (s₄ k).requires.1))
     (λ c. let k = c.before.before in omega (arith, count₄ k, long₄ k, (s₄ k).requires.1))
     (λ c κs. let k = c.before.before.before in row_fits _ _ _ (p₂ (q₃ (r₄ k))).before.before.two-opcodes2.ensures (front-room 2 (four k) (omega (arith, count₄ k, (s₄ k).requires.1))))
     (λ c. let e = c.before.before in omega (arith, count₄ (k₅ e), (ended e).long))
-    (λ c. let e = c.before.before in front_length (five e) (omega (arith, count₄ (k₅ e), (ended e).long, (s₄ (k₅ e)).pre.1)))
+    (λ c. let e = c.before.before in front_length (five e) (omega (arith, count₄ (k₅ e), (ended e).long, (s₄ (k₅ e)).requires.1)))
     (λ c. let e = c.before.before in rw (← (p₂ (q₃ (r₄ (k₅ e)))).before.before.before.before.before.read_le64.ensures.value, ← oracle-bytes (key (k₅ e)) (time (q₃ (r₄ (k₅ e))))) (five e)))

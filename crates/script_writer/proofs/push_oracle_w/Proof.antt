@@ -27,7 +27,7 @@ module _ (p : tie.After-push_row-n) where
   one = rw p.opcode.ensures.is at p.push_row-n.ensures
 
   long₁ : length now₁ ≡ length s.args.out.now
-  long₁ = front_length one (omega (arith, one.long, s.pre.1))
+  long₁ = front_length one (omega (arith, one.long, s.requires.1))
 
 -- after the oracle's own
 module _ (q : tie.After-push_oracle-n) where
@@ -58,11 +58,11 @@ module _ (q : tie.After-push_oracle-n) where
         arith,
         (one p₂).long,
         q.push_oracle-n.ensures.long,
-        oracle_long key time (part_length s₂.args.code.now s₂.args.at 32 (omega (arith, s₂.pre.0))),
+        oracle_long key time (part_length s₂.args.code.now s₂.args.at 32 (omega (arith, s₂.requires.0))),
       )
 
   long₂ : length now₂ ≡ length s₂.args.out.now
-  long₂ = front_length two (omega (arith, count₂, s₂.pre.1))
+  long₂ = front_length two (omega (arith, count₂, s₂.requires.1))
 
 -- after all
 module _ (e : tie.After-push_row-n-2) where
@@ -95,5 +95,5 @@ push_oracle_w_spec =
     (λ c. let q = c.before.before in omega (arith, count₂ q, long₂ q, (s₂ q).requires.1))
     (λ c κs. let q = c.before.before.before in row_fits _ _ _ (p₂ q).two_opcodes-closing.ensures (front-room 2 (two q) (omega (arith, count₂ q, (s₂ q).requires.1))))
     (λ c. let e = c.before.before in omega (arith, count₂ (q₃ e), (ended e).long))
-    (λ c. let e = c.before.before in front_length (three e) (omega (arith, count₂ (q₃ e), (ended e).long, (s₂ (q₃ e)).pre.1)))
+    (λ c. let e = c.before.before in front_length (three e) (omega (arith, count₂ (q₃ e), (ended e).long, (s₂ (q₃ e)).requires.1)))
     (λ c. let e = c.before.before in rw (← oracle-w-bytes (key (q₃ e)) (time (q₃ e))) (three e)))

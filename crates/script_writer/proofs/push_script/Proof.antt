@@ -29,10 +29,10 @@ module _ (a : tie.At-loop-at invariant-loop-at decreases-loop-at) where
   marks = begin.args.marks.now
 
   reached : a.loop-at.n ≤ length begin.args.out.now
-  reached = omega (arith, below_all code marks a.loop-at.at a.loop-at.count a.loop-at.n a.loop-at.inv.counted, begin.pre.1)
+  reached = omega (arith, below_all code marks a.loop-at.at a.loop-at.count a.loop-at.n a.loop-at.invariant.counted, begin.requires.1)
 
   long : length a.loop-at.out ≡ length begin.args.out.now
-  long = front_length a.loop-at.inv.front reached
+  long = front_length a.loop-at.invariant.front reached
 
 -- in a turn that is begun
 module _ (t : tie.In-loop-at invariant-loop-at decreases-loop-at) where
@@ -40,22 +40,22 @@ module _ (t : tie.In-loop-at invariant-loop-at decreases-loop-at) where
   a = t.before
 
   abbrev inside : a.loop-at.at < length (code a)
-  inside = t.loop-at-test.taken
+  inside = t.loop-at-test.true
 
   operands : after (code a) a.loop-at.at ≤ length (code a)
-  operands = omega (arith, command-operands (code a) (marks a) a.loop-at.at a.loop-at.count a.loop-at.inv.counted.done a.loop-at.inv.counted.emitting inside)
+  operands = omega (arith, command-operands (code a) (marks a) a.loop-at.at a.loop-at.count a.loop-at.invariant.counted.done a.loop-at.invariant.counted.emitting inside)
 
   marked : a.loop-at.count < length (marks a)
-  marked = mark-inside (code a) (marks a) a.loop-at.at a.loop-at.count a.loop-at.inv.counted.done a.loop-at.inv.counted.emitting inside
+  marked = mark-inside (code a) (marks a) a.loop-at.at a.loop-at.count a.loop-at.invariant.counted.done a.loop-at.invariant.counted.emitting inside
 
   abbrev here : List ℕ
-  here = bytes_here (code a) (marks a) a.loop-at.at a.loop-at.count a.loop-at.n a.loop-at.inv.counted inside
+  here = bytes_here (code a) (marks a) a.loop-at.at a.loop-at.count a.loop-at.n a.loop-at.invariant.counted inside
 
   counted : Counted (code a) (marks a) (after (code a) a.loop-at.at) (a.loop-at.count + 1) (a.loop-at.n + length here)
-  counted = one_counted (code a) (marks a) a.loop-at.at a.loop-at.count a.loop-at.n a.loop-at.inv.counted inside (length here) refl
+  counted = one_counted (code a) (marks a) a.loop-at.at a.loop-at.count a.loop-at.n a.loop-at.invariant.counted inside (length here) refl
 
   room : a.loop-at.n + length here ≤ length (begin a).args.out.now
-  room = omega (arith, below_all (code a) (marks a) (after (code a) a.loop-at.at) (a.loop-at.count + 1) (a.loop-at.n + length here) counted, (begin a).pre.1)
+  room = omega (arith, below_all (code a) (marks a) (after (code a) a.loop-at.at) (a.loop-at.count + 1) (a.loop-at.n + length here) counted, (begin a).requires.1)
 
 loop-again : tie.Need-loop-at-preserved invariant-loop-at decreases-loop-at
 loop-again c =
@@ -63,7 +63,7 @@ loop-again c =
     let t = w.before.before.before in
     let b = a t in
     let e = w.push_next-taken.ensures in
-    rw e.1 (one_pushed (code b) (marks b) (begin b).args.out.now b.loop-at.out b.loop-at.at b.loop-at.count b.loop-at.n b.loop-at.inv (inside t) _ _ e.0)
+    rw e.1 (one_pushed (code b) (marks b) (begin b).args.out.now b.loop-at.out b.loop-at.at b.loop-at.count b.loop-at.n b.loop-at.invariant (inside t) _ _ e.0)
 
 pub push_script_spec : {M : Type 1} → statement M
 push_script_spec =

@@ -33,22 +33,22 @@ module _ (t : tie.In-loop-at invariant-loop-at decreases-loop-at) where
   a = t.before
 
   abbrev inside : a.loop-at.at < length (code a)
-  inside = t.loop-at-test.taken
+  inside = t.loop-at-test.true
 
   operands : after (code a) a.loop-at.at ≤ length (code a)
-  operands = omega (arith, command-operands (code a) (marks a) a.loop-at.at a.loop-at.count a.loop-at.inv.done a.loop-at.inv.emitting inside)
+  operands = omega (arith, command-operands (code a) (marks a) a.loop-at.at a.loop-at.count a.loop-at.invariant.done a.loop-at.invariant.emitting inside)
 
   marked : a.loop-at.count < length (marks a)
-  marked = mark-inside (code a) (marks a) a.loop-at.at a.loop-at.count a.loop-at.inv.done a.loop-at.inv.emitting inside
+  marked = mark-inside (code a) (marks a) a.loop-at.at a.loop-at.count a.loop-at.invariant.done a.loop-at.invariant.emitting inside
 
   abbrev here : List ℕ
-  here = bytes_here (code a) (marks a) a.loop-at.at a.loop-at.count a.loop-at.n a.loop-at.inv inside
+  here = bytes_here (code a) (marks a) a.loop-at.at a.loop-at.count a.loop-at.n a.loop-at.invariant inside
 
   counted : Counted (code a) (marks a) (after (code a) a.loop-at.at) (a.loop-at.count + 1) (a.loop-at.n + length here)
-  counted = one_counted (code a) (marks a) a.loop-at.at a.loop-at.count a.loop-at.n a.loop-at.inv inside (length here) refl
+  counted = one_counted (code a) (marks a) a.loop-at.at a.loop-at.count a.loop-at.n a.loop-at.invariant inside (length here) refl
 
   few : a.loop-at.n + length here ≤ 5120
-  few = omega (arith, below_all (code a) (marks a) (after (code a) a.loop-at.at) (a.loop-at.count + 1) (a.loop-at.n + length here) counted, (begin a).pre.1)
+  few = omega (arith, below_all (code a) (marks a) (after (code a) a.loop-at.at) (a.loop-at.count + 1) (a.loop-at.n + length here) counted, (begin a).requires.1)
 
 loop-again : tie.Need-loop-at-preserved invariant-loop-at decreases-loop-at
 loop-again c = let t = c.before.before.before in let e = c.next_length-taken.ensures in rw (e.0, e.1) (counted t)

@@ -29,7 +29,7 @@ module _ (k : tie.After-shared_slice_known-1) where
   bytes = all_of (λ x. x < 256) code 0 (λ i. (k.shared_slice_known-1.given i).fits)
 
   passes : checked code ≡ Checked.Passed s.args.tokens s.args.oracles
-  passes = s.pre.0
+  passes = s.requires.0
 
 -- once the marks are found: 6 has not fallen
 module _ (u : tie.Else-not-mark) where
@@ -40,10 +40,10 @@ module _ (u : tie.Else-not-mark) where
   marks = u.mark.last.1.1.1.0
 
   narrow-told : narrow_code (code k) ≡ true
-  narrow-told = sym u.mark.ensures.narrow_is ∙ not-false _ u.if-not-mark.left
+  narrow-told = sym u.mark.ensures.narrow_is ∙ not-false _ u.if-not-mark.false-raw
 
   marked : marks ≡ marks_of (code k) ++ drop (length (marks_of (code k))) marks
-  marked = u.mark.ensures.marked (not-false _ u.if-not-mark.left)
+  marked = u.mark.ensures.marked (not-false _ u.if-not-mark.false-raw)
 
 returns : tie.Need-returns-then-not-mark
 returns c =
@@ -55,7 +55,7 @@ has-room-requires : tie.Need-has_room-requires
 has-room-requires c κs =
     let u = c.before in
     let b = k u in
-    (passed_as (λ s f. omega (arith, f.2)) (s b).pre.1, fits (code b) (bytes b) (s b).args.out.now _ _ (passes b) (narrow-told u) _ _ (marked u))
+    (passed_as (λ s f. omega (arith, f.2)) (s b).requires.1, fits (code b) (bytes b) (s b).args.out.now _ _ (passes b) (narrow-told u) _ _ (marked u))
 
 returns-2 : tie.Need-returns-then-not-has_room
 returns-2 c =
@@ -69,7 +69,7 @@ push-script-requires c κs =
     let w = c.before.before in
     let u = w.before.before.before in
     let b = k u in
-    (passed_as (λ s f. omega (arith, f.2)) (s b).pre.1, leb-true _ _ (sym w.has_room.ensures ∙ not-false _ w.if2.false))
+    (passed_as (λ s f. omega (arith, f.2)) (s b).requires.1, leb-true _ _ (sym w.has_room.ensures ∙ not-false _ w.if2.false))
 
 returns-3 : tie.Need-returns
 returns-3 c =

@@ -25,7 +25,7 @@ module _ (s : tie.Start) where
   command = offset ++ right_aligned 2 (decimal s.args.command) ++ blank ∷ []
 
   long : length xs ≡ 30
-  long = s.pre.0
+  long = s.requires.0
 
 -- after the first column and its blank
 module _ (t : tie.After-right_align) where
@@ -38,7 +38,7 @@ module _ (t : tie.After-right_align) where
   one : Front first (xs s₁) (offset s₁) 6
   one =
       let l = long s₁ in
-      front-set blank (front_column 5 (decimal s₁.args.offset) (front_none (xs s₁)) (omega arith) s₁.pre.1 t.right_align.ensures) (omega arith)
+      front-set blank (front_column 5 (decimal s₁.args.offset) (front_none (xs s₁)) (omega arith) s₁.requires.1 t.right_align.ensures) (omega arith)
 
   one-long : length first ≡ 30
   one-long = let l = long s₁ in front_length one (omega arith) ∙ l
@@ -52,7 +52,7 @@ module _ (u : tie.After-right_align-2) where
   s₂ = s₁ t₂
 
   two-column : Front (put_mid 6 2 (first t₂) u.right_align-2.last.1.0) (xs s₂) (offset s₂ ++ right_aligned 2 (decimal s₂.args.command)) 8
-  two-column = let l = long s₂ in front_column 2 (decimal s₂.args.command) (one t₂) (omega arith) s₂.pre.2 u.right_align-2.ensures
+  two-column = let l = long s₂ in front_column 2 (decimal s₂.args.command) (one t₂) (omega arith) s₂.requires.2 u.right_align-2.ensures
 
   abbrev second : List ℕ
   second = set (put_mid 6 2 (first t₂) u.right_align-2.last.1.0) 8 blank
@@ -72,7 +72,7 @@ module _ (v : tie.After-right_align-3) where
   s₃ = s₂ u₃
 
   three : Front (put_mid 9 20 (second u₃) v.right_align-3.last.1.0) (xs s₃) (command s₃ ++ right_aligned 20 (text_of s₃.args.operand)) 29
-  three = let l = long s₃ in front_column 20 (text_of s₃.args.operand) (two u₃) (omega arith) s₃.pre.3 v.right_align-3.ensures
+  three = let l = long s₃ in front_column 20 (text_of s₃.args.operand) (two u₃) (omega arith) s₃.requires.3 v.right_align-3.ensures
 
   three-long : length (put_mid 9 20 (second u₃) v.right_align-3.last.1.0) ≡ 30
   three-long = let l = long s₃ in front_length three (omega arith) ∙ l
@@ -93,12 +93,12 @@ write_columns_spec =
     (λ c. search rules)
     (λ c. search rules)
     (λ c. omega (arith, one-long c.before.before))
-    (λ c κs. simp (length-take, length-drop) (omega (arith, (s₁ c.before.before.before).pre.2, one-long c.before.before.before)))
+    (λ c κs. simp (length-take, length-drop) (omega (arith, (s₁ c.before.before.before).requires.2, one-long c.before.before.before)))
     (λ c. let l = long (s₂ c.before.before) in omega (arith, front_length (two-column c.before.before) (omega arith)))
     (λ c. search rules)
     (λ c. search rules)
     (λ c. omega (arith, two-long c.before.before))
-    (λ c κs. simp (length-take, length-drop) (omega (arith, (s₂ c.before.before.before).pre.3, two-long c.before.before.before)))
+    (λ c κs. simp (length-take, length-drop) (omega (arith, (s₂ c.before.before.before).requires.3, two-long c.before.before.before)))
     (λ c. omega (arith, three-long c.before.before))
     (λ c. rw length-set (three-long c.before.before ∙ sym (long (s₃ c.before.before))))
     returns)

@@ -31,9 +31,9 @@ write-columns-requires : tie.Need-write_columns-requires
 write-columns-requires c κs =
     let o = c.before.before in
     let s = s o.before in
-    let w = s.pre.1 in
+    let w = s.requires.1 in
     let bytes = all_of (λ x. x < 256) s.args.code.now 0 (λ i. (c.shared_slice_known-2-1.given i).fits) in
-    (s.pre.0, offset_few s.args.at w.near, command_few (get_or s.args.code.now s.args.at 0) w.known, rw (told o) (whole_operand s.args.code.now s.args.at bytes w))
+    (s.requires.0, offset_few s.args.at w.near, command_few (get_or s.args.code.now s.args.at 0) w.known, rw (told o) (whole_operand s.args.code.now s.args.at bytes w))
 
 pub write_line_spec : {M : Type 1} → statement M
 write_line_spec =

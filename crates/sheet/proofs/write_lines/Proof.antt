@@ -29,7 +29,7 @@ module _ (a : tie.At-loop-at invariant-loop-at decreases-loop-at) where
   old = begin.args.out.now
 
   long : length a.loop-at.out ≡ length old
-  long = front_length a.loop-at.inv.1.front a.loop-at.inv.0
+  long = front_length a.loop-at.invariant.1.front a.loop-at.invariant.0
 
   bytes : Bytes code
   bytes = all_of (λ x. x < 256) code 0 (λ i. (a.shared_slice_known-1.given i).fits)

@@ -15,8 +15,8 @@ use Rattle.sheet.proofs.Columns.{front_column}
 use Rattle.sheet.proofs.write_refusal.Statement.{statement}
 use Rattle.sheet.proofs.write_refusal.Tie as tie
 
-few : (t : tie.After-number_of-number) → length (decimal t.number_of_lem.result.number) ≤ 29
-few t = let h : t.number_of_lem.result.number < 10 ^ 29 = omega (arith, t.number_of_lem.type_inv) in decimal_few 28 t.number_of_lem.result.number h
+few : (t : tie.After-number_of-number) → length (decimal t.number_of-number.result.number) ≤ 29
+few t = let h : t.number_of-number.result.number < 10 ^ 29 = omega (arith, t.number_of-number.type_inv) in decimal_few 28 t.number_of-number.result.number h
 
 returns : tie.Need-returns
 unfolding refusal_line
@@ -25,8 +25,8 @@ returns c =
     let s = t.before.before in
     let xs = s.args.out.now in
     let l = s.requires in
-    let f = front-set line_feed (front_column 29 (decimal t.number_of_lem.result.number) (front_none xs) (omega arith) (few t) c.right_align.ensures) (omega arith) in
-    f.is ∙ ap (λ (n : Numbered). over (right_aligned 29 (decimal n.number) ++ line_feed ∷ []) xs) t.number_of_lem.ensures
+    let f = front-set line_feed (front_column 29 (decimal t.number_of-number.result.number) (front_none xs) (omega arith) (few t) c.right_align.ensures) (omega arith) in
+    f.is ∙ ap (λ (n : Numbered). over (right_aligned 29 (decimal n.number) ++ line_feed ∷ []) xs) t.number_of-number.ensures
 
 pub write_refusal_spec : {M : Type 1} → statement M
 write_refusal_spec =

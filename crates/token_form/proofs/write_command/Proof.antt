@@ -38,7 +38,7 @@ begin a = a.before.before.before.before.before.before.before.before
 counted : (a : tie.After-count_of-records) → a.count_of-records.result ≡ length (tokens (begin a))
 counted a =
     let s = begin a in
-    records_are s.args.command s.pre.0.0 (operands s) s.args.marked _ a.token_row-own.ensures _ a.count_of-records.ensures
+    records_are s.args.command s.requires.0.0 (operands s) s.args.marked _ a.token_row-own.ensures _ a.count_of-records.ensures
 
 -- the place is that of the key among its operand bytes
 placed : (p : tie.After-place_of-place)
@@ -46,7 +46,7 @@ placed : (p : tie.After-place_of-place)
 placed p =
     let s = begin p.before.before.before in
     let code = s.args.code.now in
-    p.place_of-place.ensures ∙ ap (λ (w : ℕ). cond (eqb w 40) (32 * index_of (key_at code s.args.at) (ks s)) 0) p.width_of_lem.ensures
+    p.place_of-place.ensures ∙ ap (λ (w : ℕ). cond (eqb w 40) (32 * index_of (key_at code s.args.at) (ks s)) 0) p.width_of.ensures
     ∙ sym (key_of (λ k. 32 * index_of k (ks s)) 0 code s.args.at (command_row s.args.command).width)
 
 returns : tie.Need-returns
@@ -55,7 +55,7 @@ returns c =
     let s = begin told in
     let row = c.write_row.ensures in (
       counted told,
-      row-leaves s.args.command s.pre.0.0 (operands s) s.args.marked _ told.token_row-own.ensures _ told.count_of-records.ensures _ _ _ (ks s) _ _
+      row-leaves s.args.command s.requires.0.0 (operands s) s.args.marked _ told.token_row-own.ensures _ told.count_of-records.ensures _ _ _ (ks s) _ _
           c.numbers_of-n.ensures (placed c.before.before.before.before.before.before.before.before.before.before.before) row.0 row.1.0 row.1.1,
     )
 
@@ -67,13 +67,13 @@ write_command_spec =
     (λ c κs. let s = c.before.before.before.before.before.before.before in rw c.token_row-own.ensures (row_short s.args.command s.requires.0.0 []))
     (λ c κs. (begin c).requires.0.1)
     (λ c κs. search rules)
-    (λ c κs. let s = begin c.before.before in (omega (arith, c.width_of_lem.ensures, s.pre.0.1), s.pre.0.2, s.pre.0.3))
+    (λ c κs. let s = begin c.before.before in (omega (arith, c.width_of.ensures, s.requires.0.1), s.requires.0.2, s.requires.0.3))
     (λ c. search rules)
     (λ c κs.
     let told = c.before.before.before.before.before.before.before in
     let s = begin told in
-    row_asks s.args.command s.pre.0.0 (operands s) s.args.marked told.token_row-own.result told.token_row-own.ensures
-    told.count_of-records.result told.count_of-records.ensures _ s.pre.1)
+    row_asks s.args.command s.requires.0.0 (operands s) s.args.marked told.token_row-own.result told.token_row-own.ensures
+    told.count_of-records.result told.count_of-records.ensures _ s.requires.1)
     (λ c. search rules)
     (λ c. search rules)
     (λ c. search rules)

@@ -57,7 +57,7 @@ write-one-requires : tie.Need-write_one-requires
 write-one-requires c κs =
     let u = c.before.before.before in
     let s = begin u.before in
-    one_asks (command s) (operands s) s.args.marked (unmarked u.before) _ 0 ((plain u).2 (operands s)) _ s.pre.1
+    one_asks (command s) (operands s) s.args.marked (unmarked u.before) _ 0 ((plain u).2 (operands s)) _ s.requires.1
 
 returns : tie.Need-returns-then-kind-gt-BYTES8
 returns c =
@@ -78,7 +78,7 @@ write-one-requires-2 : tie.Need-write_one-requires-then-kind-ne0
 write-one-requires-2 c κs =
     let r = c.before.before.before in
     let s = begin r.before.before.before in
-    one_asks (command s) (operands s) s.args.marked (unmarked r.before.before.before) _ _ (number_read r) _ s.pre.1
+    one_asks (command s) (operands s) s.args.marked (unmarked r.before.before.before) _ _ (number_read r) _ s.requires.1
 
 returns-2 : tie.Need-returns-then-kind-ne0
 returns-2 c =
@@ -104,7 +104,7 @@ returns-3 c =
     let v = w.before.before.before.before in
     let told = v.command_of-command.ensures in
     let e = rw told at w.write_command-records.ensures in
-    ((e.0, rw told at v.width_of_lem.ensures), e.1)
+    ((e.0, rw told at v.width_of-width.ensures), e.1)
 
 pub write_next_spec : {M : Type 1} → statement M
 write_next_spec =

@@ -45,14 +45,14 @@ module _ (a : tie.At-loop-at invariant-loop-at decreases-loop-at) where
   now = columns_of a.loop-at.kinds a.loop-at.numbers a.loop-at.places
 
   room : Room (emitted code marks) old
-  room = begin.pre.1
+  room = begin.requires.1
 
-  bound : Bounds code marks ks old now a.loop-at.at a.loop-at.count a.loop-at.n a.loop-at.inv
-  bound = bounds code marks ks old now a.loop-at.at a.loop-at.count a.loop-at.n a.loop-at.inv room
+  bound : Bounds code marks ks old now a.loop-at.at a.loop-at.count a.loop-at.n a.loop-at.invariant
+  bound = bounds code marks ks old now a.loop-at.at a.loop-at.count a.loop-at.n a.loop-at.invariant room
 
   -- what is written lies within the columns, which have their lengths still
   record Reached : Type 0 where
-    lengths : Bounds code marks ks old now a.loop-at.at a.loop-at.count a.loop-at.n a.loop-at.inv
+    lengths : Bounds code marks ks old now a.loop-at.at a.loop-at.count a.loop-at.n a.loop-at.invariant
     kinds : a.loop-at.n ≤ length a.loop-at.kinds
     numbers : a.loop-at.n ≤ length a.loop-at.numbers
     places : a.loop-at.n ≤ length a.loop-at.places
@@ -72,25 +72,25 @@ module _ (t : tie.In-loop-at invariant-loop-at decreases-loop-at) where
   a = t.before
 
   abbrev inside : a.loop-at.at < length (code a)
-  inside = t.loop-at-test.taken
+  inside = t.loop-at-test.true
 
   command-told : known (command_at (code a) a.loop-at.at) ≡ true
-  command-told = command-known (code a) (marks a) a.loop-at.at a.loop-at.count a.loop-at.inv.done a.loop-at.inv.emitting inside
+  command-told = command-known (code a) (marks a) a.loop-at.at a.loop-at.count a.loop-at.invariant.done a.loop-at.invariant.emitting inside
 
   operands : a.loop-at.at + 1 + (command_row (command_at (code a) a.loop-at.at)).width ≤ length (code a)
-  operands = command-operands (code a) (marks a) a.loop-at.at a.loop-at.count a.loop-at.inv.done a.loop-at.inv.emitting inside
+  operands = command-operands (code a) (marks a) a.loop-at.at a.loop-at.count a.loop-at.invariant.done a.loop-at.invariant.emitting inside
 
   marked : a.loop-at.count < length (marks a)
-  marked = mark-inside (code a) (marks a) a.loop-at.at a.loop-at.count a.loop-at.inv.done a.loop-at.inv.emitting inside
+  marked = mark-inside (code a) (marks a) a.loop-at.at a.loop-at.count a.loop-at.invariant.done a.loop-at.invariant.emitting inside
 
   abbrev here : List Token
-  here = tokens_here (code a) (marks a) (ks a) (old a) (now a) a.loop-at.at a.loop-at.count a.loop-at.n a.loop-at.inv inside
+  here = tokens_here (code a) (marks a) (ks a) (old a) (now a) a.loop-at.at a.loop-at.count a.loop-at.n a.loop-at.invariant inside
 
   tokens : a.loop-at.n + length here ≤ length (old a).kinds
-  tokens = omega (arith, more_tokens (code a) (marks a) (ks a) (old a) (now a) a.loop-at.at a.loop-at.count a.loop-at.n a.loop-at.inv inside, (room a).kinds)
+  tokens = omega (arith, more_tokens (code a) (marks a) (ks a) (old a) (now a) a.loop-at.at a.loop-at.count a.loop-at.n a.loop-at.invariant inside, (room a).kinds)
 
-  room-here : Room here (lent (code a) (marks a) (ks a) (old a) (now a) a.loop-at.at a.loop-at.count a.loop-at.n a.loop-at.inv inside)
-  room-here = room-left (code a) (marks a) (ks a) (old a) (now a) a.loop-at.at a.loop-at.count a.loop-at.n a.loop-at.inv inside (room a)
+  room-here : Room here (lent (code a) (marks a) (ks a) (old a) (now a) a.loop-at.at a.loop-at.count a.loop-at.n a.loop-at.invariant inside)
+  room-here = room-left (code a) (marks a) (ks a) (old a) (now a) a.loop-at.at a.loop-at.count a.loop-at.n a.loop-at.invariant inside (room a)
 
 loop-again : tie.Need-loop-at-preserved invariant-loop-at decreases-loop-at
 loop-again c =
@@ -121,7 +121,7 @@ write_records_spec =
     (λ c. omega (arith, reached c.before.before.before.before.before))
     (λ c. omega (arith, reached c.before.before.before.before.before))
     (λ c. omega (arith, reached c.before.before.before.before.before))
-    (λ c κs. let t = c.before.before.before.before.before in let s = begin (a t) in ((command-told t, operands t, s.pre.0.1, s.pre.0.2), room-here t))
+    (λ c κs. let t = c.before.before.before.before.before in let s = begin (a t) in ((command-told t, operands t, s.requires.0.1, s.requires.0.2), room-here t))
     (λ c. let t = c.before.before.before.before.before.before.before.before.before.before.before.before.before in omega (arith, tokens t, c.write_next-taken.ensures.0.0, (begin (a t)).good))
     (λ c. let t = c.before.before.before.before.before.before.before.before.before.before.before.before.before in omega (arith, marked t, (begin (a t)).good))
     (λ c. let t = c.before.before.before.before.before.before.before.before.before.before.before.before.before in omega (arith, operands t, (begin (a t)).good))

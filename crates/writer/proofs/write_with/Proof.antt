@@ -36,7 +36,7 @@ module _ (k : tie.After-shared_slice_known-1) where
   bytes = all_of (λ x. x < 256) code 0 (λ i. (k.shared_slice_known-1.given i).fits)
 
   passes : checked code ≡ Checked.Passed tokens oracles
-  passes = k.pre.0
+  passes = k.requires.0
 
 -- once the keys are found: 6 has not fallen
 module _ (f : tie.After-find_keys-count) where
@@ -44,7 +44,7 @@ module _ (f : tie.After-find_keys-count) where
   k = f.before.before.before.before.before.before.before.before.before.before.before.before.before.before.before.before
 
   narrow-told : narrow_code (code k) ≡ true
-  narrow-told = sym f.mark.ensures.narrow_is ∙ not-false _ f.if-not-mark.left
+  narrow-told = sym f.mark.ensures.narrow_is ∙ not-false _ f.if-not-mark.false-raw
 
   few : f.find_keys-count.result < 2 ^ 16
   few = few_keys (code k) (bytes k) (old k) (tokens k) (oracles k) (passes k) narrow-told _ _ f.find_keys-count.ensures
@@ -55,7 +55,7 @@ module _ (u : tie.Else-not-has_room) where
   found = u.before.before.before.before
 
   roomy : room_for (tokens (k found)) found.find_keys-count.result (old (k found)) ≡ true
-  roomy = sym u.has_room.ensures ∙ not-false _ u.if-not-has_room.left
+  roomy = sym u.has_room.ensures ∙ not-false _ u.if-not-has_room.false-raw
 
 returns : tie.Need-returns-then-not-mark
 returns c =
@@ -83,8 +83,8 @@ write-records-requires c κs =
     let u = c.before.before.before.before.before in
     let f = found u in
     let k = k f in
-    let marked = f.mark.ensures.marked (not-false _ f.if-not-mark.left) in (
-      (passed_as (λ s f. omega (arith, f.2)) k.pre.1, few f, f.find_keys-count.ensures.noted),
+    let marked = f.mark.ensures.marked (not-false _ f.if-not-mark.false-raw) in (
+      (passed_as (λ s f. omega (arith, f.2)) k.requires.1, few f, f.find_keys-count.ensures.noted),
       room (code k) (bytes k) (old k) (tokens k) (oracles k) (passes k) (narrow-told f) _ _ f.find_keys-count.ensures (roomy u) _ _ marked,
     )
 
@@ -100,7 +100,7 @@ returns-3 c =
     let u = c.before.before.before.before.before.before.before.before.before.before.before.before.before.before.before.before.before in
     let f = found u in
     let k = k f in
-    let marked = f.mark.ensures.marked (not-false _ f.if-not-mark.left) in
+    let marked = f.mark.ensures.marked (not-false _ f.if-not-mark.false-raw) in
     let records = c.write_records.ensures in
     wrote_all (code k) (bytes k) (old k) (tokens k) (oracles k) (passes k) (narrow-told f) _ _ f.find_keys-count.ensures (roomy u) _ _ marked _ _ _ _
     records c.write_keys.ensures

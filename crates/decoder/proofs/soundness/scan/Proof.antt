@@ -37,23 +37,23 @@ module _ (f : tie.After-fields_sound invariant-loop-i decreases-loop-i) where
   turn = f.before.before.before.before.before
 
   inside : turn.loop-i.i < length (records turn).kinds
-  inside = omega (arith, f.loop-i-test.taken, (lengths turn).first)
+  inside = omega (arith, f.loop-i-test.true, (lengths turn).first)
 
   told : sound_at (records turn) turn.loop-i.i ≡ f.fields_sound.result
   told =
-      sound_fields (records turn) turn.loop-i.i (omega (arith, f.loop-i-test.taken, (lengths turn).second))
-      (omega (arith, f.loop-i-test.taken, (lengths turn).third))
+      sound_fields (records turn) turn.loop-i.i (omega (arith, f.loop-i-test.true, (lengths turn).second))
+      (omega (arith, f.loop-i-test.true, (lengths turn).third))
       ∙ sym f.fields_sound.ensures
 
 returns : tie.Need-returns-then-not-fields_sound invariant-loop-i decreases-loop-i
 returns c =
     let a = turn c.before in
-    ap scanned (sym (unsound-here (records a) a.loop.i _ (inside c.before) (told c.before ∙ not-true _ c.if-not-fields_sound.true-raw)) ∙ a.loop.inv.1)
+    ap scanned (sym (unsound-here (records a) a.loop.i _ (inside c.before) (told c.before ∙ not-true _ c.if-not-fields_sound.true-raw)) ∙ a.loop.invariant.1)
 
 loop-again : tie.Need-loop-i-preserved invariant-loop-i decreases-loop-i
 loop-again c =
     let a = turn c.before in
-    (omega arith, sym (unsound-next (records a) a.loop.i _ (inside c.before) (told c.before ∙ not-false _ c.if-not-fields_sound.false-raw)) ∙ a.loop.inv.1)
+    (omega arith, sym (unsound-next (records a) a.loop.i _ (inside c.before) (told c.before ∙ not-false _ c.if-not-fields_sound.false-raw)) ∙ a.loop.invariant.1)
 
 returns-2 : tie.Need-returns-then-i-kinds invariant-loop-i decreases-loop-i
 returns-2 c =

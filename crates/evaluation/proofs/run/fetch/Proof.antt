@@ -23,13 +23,13 @@ env s = let a = s.args in env_of a.spent.now a.spent_marks.now a.outputs.now a.o
 abbrev cursor : tie.After-width_of → Cursor
 cursor w =
     let at = (start w.before).args.spot.at in
-    record { command = w.command_of-command.result; operands = at + 1; next = at + 1 + w.width_of_lem.result }
+    record { command = w.command_of-command.result; operands = at + 1; next = at + 1 + w.width_of.result }
 
 here : (w : tie.After-width_of) → let a = (start w.before).args in cursor w ≡ cursor_at a.code.now a.spot.at
 here w =
     let at = (start w.before).args.spot.at in
     let p = w.command_of-command.ensures in
-    let q = w.width_of_lem.ensures ∙ ap (λ (d : Command). (command_row d).width) p in
+    let q = w.width_of.ensures ∙ ap (λ (d : Command). (command_row d).width) p in
     λ k. record { command = p k; operands = at + 1; next = at + 1 + q k }
 
 step-requires : tie.Need-step-requires
@@ -70,7 +70,7 @@ returns-3 c =
     u.step.result u.step.ensures.1 u.step.ensures.0 c.in-Oracle.is
 
 add-next : tie.Need-overflow_add-next
-add-next c = let s = start c.before in omega (arith, s.pre.operands, rw c.command_of-command.ensures at c.width_of_lem.ensures, s.good.0.0)
+add-next c = let s = start c.before in omega (arith, s.requires.operands, rw c.command_of-command.ensures at c.width_of.ensures, s.good.0.0)
 
 pub fetch_spec : {M : Type 1} → statement M
 fetch_spec =
