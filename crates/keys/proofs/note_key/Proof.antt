@@ -11,7 +11,7 @@ returns c =
     noted_none s.args.code.now s.args.positions.now s.args.count s.requires.3 s.args.width s.args.at c.if-width-ne-KEY_AND_TIME_BYTES.true
 
 find-key-requires : tie.Need-find_key-requires
-find-key-requires c κs = let s = c.before.before.before.before in (omega (arith, s.requires.0, c.if1.false), s.requires.3)
+find-key-requires c κs = let s = c.before.before.before.before in (omega (arith, s.requires.0, c.if-width-ne-KEY_AND_TIME_BYTES.false), s.requires.3)
 
 returns-2 : tie.Need-returns-then-find_key-count
 returns-2 c =

@@ -16,7 +16,7 @@ main_spec =
     (λ c. search rules)
     (λ c κs. search rules)
     (λ c. search rules)
-    (λ c. (rw c.n.given.1 at c.read_input.ensures).0)
+    (λ c. (rw c.in-Bytes.is at c.read_input.ensures).0)
     (λ c. sym (length-take-le _ _ (rw c.in-Bytes.is at c.read_input.ensures).0))
     (λ c κs. search rules)
     (λ c. search rules))

@@ -35,17 +35,17 @@ read_input_spec =
     (λ c. omega (arith, c.code-1.given))
     (λ c. tt)
     (λ c. omega (arith, c.code-1.given))
-    (λ c. omega (arith, c.code.given))
-    (λ c. omega (arith, c.code.given))
+    (λ c. omega (arith, c.code-1.given))
+    (λ c. omega (arith, c.code-1.given))
     (λ c κs. search rules)
-    (λ c. omega (arith, c.code.given))
+    (λ c. omega (arith, c.code-1.given))
     (λ c.
     let r = c.before.before.before.before.before.before in
-    let l = r.loop in
+    let l = r.loop-n in
     let s = r.before.before.before.before.before.before in
     done l.n _ (omega (arith, r.code.given)) (omega (arith, r.code.given, l.invariant.0, s.requires)))
-    (λ c. omega (arith, c.code.given, simp (length-take, length-drop) at c.count-more.ensures.0.0))
-    (λ c. omega (arith, c.code.given, simp (length-take, length-drop) at c.count-more.ensures.0.0))
-    (λ c. (omega (arith, c.code.given), omega (arith, c.code.given, simp (length-take, length-drop) at c.count-more.ensures.0.0)))
+    (λ c. omega (arith, c.code-1.given, simp (length-take, length-drop) at c.count-more.ensures.0.0))
+    (λ c. omega (arith, c.code-1.given, simp (length-take, length-drop) at c.count-more.ensures.0.0))
+    (λ c. (omega (arith, c.code-1.given), omega (arith, c.code-1.given, simp (length-take, length-drop) at c.count-more.ensures.0.0)))
     (λ c. c.loop-n.invariant.0)
     (λ c. let a = c.before in done a.loop-n.n a.loop-n.code a.loop-n.invariant.1 (rw a.loop-n.invariant.0 a.requires)))

@@ -58,7 +58,7 @@ loop-holds c =
 returns-2 : tie.Need-returns-then-not-fits invariant-loop-i decreases-loop-i
 returns-2 c places keys =
     let a = c.before.before.before.before.before in
-    ends_miss _ (records a places keys) (begin a).args.end _ _ a.loop-i.i (a.loop-i.invariant.4 places keys) c.loop-i-test.true (omega (arith, a.loop-i.invariant.0, a.loop-i.invariant.1)) _ c.fits2.ensures (not-true _ c.if-not-fits.true-raw)
+    ends_miss _ (records a places keys) (begin a).args.end _ _ a.loop-i.i (a.loop-i.invariant.4 places keys) c.loop-i-test.true (omega (arith, a.loop-i.invariant.0, a.loop-i.invariant.1)) _ c.fits.ensures (not-true _ c.if-not-fits.true-raw)
 
 loop-again : tie.Need-loop-i-preserved invariant-loop-i decreases-loop-i
 loop-again c =
@@ -67,7 +67,7 @@ loop-again c =
       a.loop-i.invariant.1,
       omega (arith, a.loop-i.invariant.2),
       a.loop-i.invariant.3,
-      λ places keys. ends_more _ (records a places keys) (begin a).args.end _ _ a.loop-i.i (a.loop-i.invariant.4 places keys) c.loop-i-test.true (omega (arith, a.loop-i.invariant.0, a.loop-i.invariant.1)) _ c.fits2.ensures (not-false _ c.if-not-fits.false-raw),
+      λ places keys. ends_more _ (records a places keys) (begin a).args.end _ _ a.loop-i.i (a.loop-i.invariant.4 places keys) c.loop-i-test.true (omega (arith, a.loop-i.invariant.0, a.loop-i.invariant.1)) _ c.fits.ensures (not-false _ c.if-not-fits.false-raw),
     )
 
 returns-3 : tie.Need-returns invariant-loop-i decreases-loop-i

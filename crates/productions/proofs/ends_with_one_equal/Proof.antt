@@ -14,7 +14,7 @@ returns-2 c places keys = let s = c.before.before.before.before.before in let r 
 returns-3 : tie.Need-returns
 returns-3 c places keys =
     let s = c.before.before.before.before.before.before.before.before in let r = records_of s.args.kinds.now s.args.numbers.now places keys in
-    one_equal_yes r s.args.end c.if-end-lt3.false c.if-kinds-end-ne-EQUAL.false c.fits2.result c.fits2.ensures
+    one_equal_yes r s.args.end c.if-end-lt3.false c.if-kinds-end-ne-EQUAL.false c.fits.result c.fits.ensures
 
 pub ends_with_one_equal_spec : {M : Type 1} → statement M
 ends_with_one_equal_spec =

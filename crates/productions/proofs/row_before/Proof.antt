@@ -11,7 +11,7 @@ returns c = rw (eq-eqb _ 0 c.if-end-eq0.true)
 
 returns-2 : tie.Need-returns
 unfolding row_in
-returns-2 c = rw (ne_eqb _ 0 c.if1.false) c.u8_to_usize.ensures
+returns-2 c = rw (ne_eqb _ 0 c.if-end-eq0.false) c.u8_to_usize.ensures
 
 pub row_before_spec : {M : Type 1} → statement M
 row_before_spec = tie.close (tie.spec returns (λ c. search rules) (λ c. search rules) (λ c κs. search rules) returns-2)

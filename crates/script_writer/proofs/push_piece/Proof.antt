@@ -16,7 +16,7 @@ within : (s : tie.Start) (n : ℕ) → length (piece_at s.args.piece s.args.code
 within s n e = omega (arith, piece_long s.args.piece s.args.code.now s.args.at s.requires.0, s.requires.1)
 
 returns : tie.Need-returns-in-Row
-returns c = rw c.enum_told.given.1 c.push_row.ensures
+returns c = rw c.in-Row.is c.push_row.ensures
 
 returns-2 : tie.Need-returns-in-Constant
 returns-2 c =
@@ -34,7 +34,7 @@ push_piece_spec =
     tie.close
     (tie.spec
     (λ c. search rules)
-    (λ c κs. let s = c.before.before.before.before in (s.requires.0.fits, s.requires.0.room, rw c.enum_told.given.1 at s.requires.1))
+    (λ c κs. let s = c.before.before.before.before in (s.requires.0.fits, s.requires.0.room, rw c.in-Row.is at s.requires.1))
     (λ c. search rules)
     (λ c κs. rw c.in-Constant.is at c.requires.0.inside)
     (λ c κs. rw c.in-Constant.is at c.requires.1)

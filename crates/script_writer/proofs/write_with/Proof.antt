@@ -69,14 +69,14 @@ push-script-requires c κs =
     let w = c.before.before in
     let u = w.before.before.before in
     let b = k u in
-    (passed_as (λ s f. omega (arith, f.2)) (s b).requires.1, leb-true _ _ (sym w.has_room.ensures ∙ not-false _ w.if2.false))
+    (passed_as (λ s f. omega (arith, f.2)) (s b).requires.1, leb-true _ _ (sym w.has_room.ensures ∙ not-false _ w.if-not-mark.false-raw))
 
 returns-3 : tie.Need-returns
 returns-3 c =
     let w = c.before.before.before.before.before in
     let u = w.before.before.before in
     let b = k u in
-    let roomy = sym w.has_room.ensures ∙ not-false _ w.if2.false in
+    let roomy = sym w.has_room.ensures ∙ not-false _ w.if-not-mark.false-raw in
     wrote_all (code b) (bytes b) (s b).args.out.now _ _ (passes b) (narrow-told u) _ _ (marked u) roomy _ _ c.push_script.ensures
 
 pub write_with_spec : {M : Type 1} → statement M

@@ -22,8 +22,8 @@ returns c =
     let p₁ = p₃.before.before in
     let s = p₁.before.before.before.before in
     let e = evaluate_lent_lem s.args.body.now _ _ _ _ _ _ _ _ _ _ _ s.args.checks.now _ p₀.part.ensures p₁.words.ensures p₂.part2.ensures
-    p₃.words2.ensures p₄.part3.ensures p₅.words3.ensures p₆.part4.ensures p₇.words4.ensures p₈.part5.ensures
-    (rw p₁₁.part6.ensures at at.word.ensures) p₉.part7.ensures p₁₀.halves.ensures in
+    p₃.words2.ensures p₄.part3.ensures p₅.words3.ensures p₆.part-2.ensures p₇.words-spent.ensures p₈.part-4.ensures
+    (rw p₁₁.part-5.ensures at at.word.ensures) p₉.part-6.ensures p₁₀.halves.ensures in
     (rw e at call.covenant_evaluate.ensures.0, rw e at call.covenant_evaluate.ensures.1)
 
 pub call_spec : {M : Type 1} → statement M

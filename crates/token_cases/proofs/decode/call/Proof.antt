@@ -11,7 +11,7 @@ returns c =
     let kinds = keys.before.before.before in
     let body = kinds.args.body.now in
     let p = kinds.before in
-    let e = decode-lent body _ _ _ _ kinds.part.ensures p.words.ensures p.halves.ensures keys.part-2.ensures in
+    let e = decode-lent body _ _ _ _ kinds.part.ensures p.words-numbers.ensures p.halves.ensures keys.part-2.ensures in
     (rw e at d.covenant_decode.ensures.0, rw e at d.covenant_decode.ensures.1.0)
 
 pub call_spec : {M : Type 1} → statement M
