@@ -49,13 +49,13 @@ tokens_le : (c : Command) → token_count (command_row c) ≤ most_tokens
 tokens_le Command.Unknown = omega arith
 tokens_le Command.IdxConst = omega arith
 tokens_le Command.CurrIdx = omega arith
-tokens_le (Command.Index o) = elim o [ IdxOp.Add ↦ omega arith | IdxOp.Sub ↦ omega arith | IdxOp.Mul ↦ omega arith | IdxOp.Div ↦ omega arith ]
+tokens_le (Command.Index o) = elim o as (λ o. token_count (command_row (Command.Index o)) ≤ most_tokens) [ IdxOp.Add ↦ omega arith | IdxOp.Sub ↦ omega arith | IdxOp.Mul ↦ omega arith | IdxOp.Div ↦ omega arith ]
 tokens_le Command.Const = omega arith
 tokens_le Command.CurrInputIdx = omega arith
 tokens_le (Command.Lookup l) =
-    elim l [ AmountList.Input ↦ omega arith | AmountList.Output ↦ omega arith | AmountList.InputIssue ↦ omega arith | AmountList.InputReIssue ↦ omega arith ]
+    elim l as (λ l. token_count (command_row (Command.Lookup l)) ≤ most_tokens) [ AmountList.Input ↦ omega arith | AmountList.Output ↦ omega arith | AmountList.InputIssue ↦ omega arith | AmountList.InputReIssue ↦ omega arith ]
 tokens_le (Command.Binary o) =
-    elim o [
+    elim o as (λ o. token_count (command_row (Command.Binary o)) ≤ most_tokens) [
       | BinOp.Add ↦ omega arith
       | BinOp.Sub ↦ omega arith
       | BinOp.Mul ↦ omega arith
@@ -65,11 +65,11 @@ tokens_le (Command.Binary o) =
       | BinOp.BitOr ↦ omega arith
       | BinOp.Xor ↦ omega arith
     ]
-tokens_le (Command.Unary o) = elim o [ UnOp.Invert ↦ omega arith | UnOp.Negate ↦ omega arith ]
+tokens_le (Command.Unary o) = elim o as (λ o. token_count (command_row (Command.Unary o)) ≤ most_tokens) [ UnOp.Invert ↦ omega arith | UnOp.Negate ↦ omega arith ]
 tokens_le Command.PriceOracle1 = omega arith
 tokens_le Command.PriceOracle1W = omega arith
 tokens_le (Command.Compare o) =
-    elim o [ CmpOp.Eq ↦ omega arith | CmpOp.Lt ↦ omega arith | CmpOp.Leq ↦ omega arith | CmpOp.Gt ↦ omega arith | CmpOp.Geq ↦ omega arith ]
+    elim o as (λ o. token_count (command_row (Command.Compare o)) ≤ most_tokens) [ CmpOp.Eq ↦ omega arith | CmpOp.Lt ↦ omega arith | CmpOp.Leq ↦ omega arith | CmpOp.Gt ↦ omega arith | CmpOp.Geq ↦ omega arith ]
 
 columns : (c : Command)
     → (length (command_row c).terminals ≤ 1) × (length (command_row c).terminals ≤ token_count (command_row c)) × (length (command_row c).lists ≤ 1)

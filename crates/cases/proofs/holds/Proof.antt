@@ -2,12 +2,12 @@
 use borrow.Author.Rules.{rules}
 use Prim.Native.Nat.{◌-◌, ◌≤◌, ◌<◌}
 use mathlib.Core.Path.{◌≡◌, refl, sym, ◌∙◌}
-use mathlib.Core.Logic.{⊎_elim}
 use native.Mathlib.Omega.{arith}
 use lib.ListN.{get_or-eq_default, length, get_or, drop}
 use Rattle.cases.specs.Known.{held}
 use Rattle.cases.proofs.Comparing.{get_d_any, held-end, held_other, held_same, held_short}
 use Rattle.cases.proofs.holds.Statement.{statement}
+use Rattle.cases.proofs.holds.Lts.{then-i-bytes, else-i-bytes}
 use Rattle.cases.proofs.holds.Tie as tie
 
 abbrev invariant-loop-i : tie.invariant-loop-i
@@ -22,8 +22,7 @@ known_is : (c : tie.Joined-i-bytes invariant-loop-i decreases-loop-i)
 known_is c =
     let a = c.args in
     let i = c.loop-i.i in
-    ⊎_elim (λ w. w.2 ∙ get_d_any a.bytes.now i 0 a.fill w.0.taken)
-    (λ w. w.1 ∙ sym (get_or-eq_default a.bytes.now a.fill {n = i} w.0.left)) c.if-i-bytes.branch
+    elim c.if-i-bytes.branch [ then-i-bytes w ↦ w.known-is ∙ get_d_any a.bytes.now i 0 a.fill w.if-i-bytes.true | else-i-bytes w ↦ w.known-is ∙ sym (get_or-eq_default a.bytes.now a.fill {n = i} w.if-i-bytes.false) ]
 
 returns : tie.Need-returns-then-buffer-bytes invariant-loop-i decreases-loop-i
 returns c = let a = c.args in sym (held_short a.fill a.bytes.now a.buffer.now c.if-buffer-bytes.true)

@@ -2,7 +2,6 @@
 use borrow.Author.Rules.{rules}
 use Prim.Native.Nat.{◌-◌, ◌≤◌, ◌<◌}
 use mathlib.Core.Path.{◌≡◌, refl, sym, ◌∙◌}
-use mathlib.Core.Logic.{⊎_elim}
 use native.Mathlib.Omega.{arith}
 use lib.ListN.{length, get_or, drop}
 use Rattle.cases.specs.Cases.{halves_of}
@@ -10,6 +9,7 @@ use Rattle.cases.specs.Known.{held}
 use Rattle.cases.proofs.Comparing.{held-end, held_other, held_same, held_short}
 use Rattle.cases.proofs.Reading.{length_numbers, half_is, half_past}
 use Rattle.cases.proofs.holds_halves.Statement.{statement}
+use Rattle.cases.proofs.holds_halves.Lts.{then-j-n, else-j-n}
 use Rattle.cases.proofs.holds_halves.Tie as tie
 
 abbrev invariant-loop-j : tie.invariant-loop-j
@@ -24,8 +24,7 @@ known_is : (c : tie.Joined-j-n invariant-loop-j decreases-loop-j)
 known_is c =
     let a = c.args in
     let i = c.loop-j.j in
-    ⊎_elim (λ w. w.2 ∙ w.1.ensures ∙ sym (half_is a.part.now i a.fill w.0.taken))
-    (λ w. w.1 ∙ sym (half_past a.part.now i a.fill w.0.left)) c.if-j-n.branch
+    elim c.if-j-n.branch [ then-j-n w ↦ w.known-is ∙ w.number-known.ensures ∙ sym (half_is a.part.now i a.fill w.if-j-n.true) | else-j-n w ↦ w.known-is ∙ sym (half_past a.part.now i a.fill w.if-j-n.false) ]
 
 returns : tie.Need-returns-then-buffer-n invariant-loop-j decreases-loop-j
 returns c =

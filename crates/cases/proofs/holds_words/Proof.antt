@@ -2,7 +2,6 @@
 use borrow.Author.Rules.{rules}
 use Prim.Native.Nat.{◌-◌, ◌≤◌, ◌<◌}
 use mathlib.Core.Path.{◌≡◌, refl, sym, ◌∙◌}
-use mathlib.Core.Logic.{⊎_elim}
 use native.Mathlib.Omega.{arith}
 use lib.ListN.{length, get_or, drop}
 use Rattle.cases.specs.Cases.{words_of}
@@ -10,6 +9,7 @@ use Rattle.cases.specs.Known.{held}
 use Rattle.cases.proofs.Comparing.{held-end, held_other, held_same, held_short}
 use Rattle.cases.proofs.Reading.{length_numbers, word_is, word_past}
 use Rattle.cases.proofs.holds_words.Statement.{statement}
+use Rattle.cases.proofs.holds_words.Lts.{then-k-n, else-k-n}
 use Rattle.cases.proofs.holds_words.Tie as tie
 
 abbrev invariant-loop-k : tie.invariant-loop-k
@@ -24,8 +24,7 @@ known_is : (c : tie.Joined-k-n invariant-loop-k decreases-loop-k)
 known_is c =
     let a = c.args in
     let i = c.loop-k.k in
-    ⊎_elim (λ w. w.2 ∙ w.1.ensures ∙ sym (word_is a.part.now i a.fill w.0.taken))
-    (λ w. w.1 ∙ sym (word_past a.part.now i a.fill w.0.left)) c.if-k-n.branch
+    elim c.if-k-n.branch [ then-k-n w ↦ w.known-is ∙ w.word-known.ensures ∙ sym (word_is a.part.now i a.fill w.if-k-n.true) | else-k-n w ↦ w.known-is ∙ sym (word_past a.part.now i a.fill w.if-k-n.false) ]
 
 returns : tie.Need-returns-then-buffer-n invariant-loop-k decreases-loop-k
 returns c =

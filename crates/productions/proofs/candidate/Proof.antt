@@ -1,13 +1,14 @@
 -- By the tests, whose facts stand in Places.
 use borrow.Author.Rules.{rules}
 use mathlib.Core.Path.{sym, subst, ◌∙◌}
-use mathlib.Core.Logic.{⊎_elim}
 use mathlib.Core.List.{List, []}
 use Prim.Native.Nat.{ℕ, ◌<◌}
 use Rattle.semantics.specs.Operations.{Token}
 use Rattle.productions.specs.Before.{tokens_before}
 use Rattle.productions.proofs.Places.{candidate-div, candidate_fourth, candidate-index-div, candidate_last, known_kind}
 use Rattle.productions.proofs.candidate.Statement.{statement}
+use Rattle.productions.proofs.candidate.Lts.{then-last-eq-LE64_TO_SCRIPT_NUM+else-kind_before-eq-NIP, else-last-eq-LE64_TO_SCRIPT_NUM}
+use Rattle.productions.proofs.candidate.Lts.{then-last-eq-NIP+else-kind_before-eq-VERIFY, else-last-eq-NIP}
 use Rattle.productions.proofs.candidate.Tie as tie
 
 by-fourth-requires : tie.Need-by_fourth-requires
@@ -49,8 +50,14 @@ unfolding tokens
 returns-4 c numbers places keys =
     let k = c.before.before.before.before in
     candidate_last (tokens k numbers places keys) k.kind_before-last.result (k.kind_before-last.ensures numbers places keys) c.if-last-eq-VERIFY.false
-    (⊎_elim (λ w e f. w.2.left (w.1.ensures numbers places keys ∙ f)) (λ w e f. w.left e) c.if-last-eq-LE64_TO_SCRIPT_NUM.branch)
-    (⊎_elim (λ w e f. w.2.left (w.1.ensures numbers places keys ∙ f)) (λ w e f. w.left e) c.if-last-eq-NIP.branch) c.by_last.result c.by_last.ensures
+    (elim c.if-last-eq-LE64_TO_SCRIPT_NUM.branch [
+      | then-last-eq-LE64_TO_SCRIPT_NUM+else-kind_before-eq-NIP w ↦ λ e f. w.if-kind_before-eq-NIP.false (w.kind_before-then-last-eq-LE64_TO_SCRIPT_NUM.ensures numbers places keys ∙ f)
+      | else-last-eq-LE64_TO_SCRIPT_NUM w ↦ λ e f. w.if-last-eq-LE64_TO_SCRIPT_NUM.false e
+    ])
+    (elim c.if-last-eq-NIP.branch [
+      | then-last-eq-NIP+else-kind_before-eq-VERIFY w ↦ λ e f. w.if-kind_before-eq-VERIFY.false (w.kind_before-then-last-eq-NIP.ensures numbers places keys ∙ f)
+      | else-last-eq-NIP w ↦ λ e f. w.if-last-eq-NIP.false e
+    ]) c.by_last.result c.by_last.ensures
 
 pub candidate_spec : {M : Type 1} → statement M
 candidate_spec =

@@ -28,7 +28,7 @@ loop-again c =
     let t = c.before in
     let a = t.before in
     let b = s a in
-    (omega (arith, t.loop-j-test.true), front-next b.args.t1.bytes a.loop-j.j (omega (arith, b.requires, t.loop-j-test.true)) (omega (arith, b.requires, t.loop-j-test.true)) a.loop-j.invariant.1)
+    (omega (arith, t.loop-j-test.true), front-next b.args.row.bytes a.loop-j.j (omega (arith, b.requires, t.loop-j-test.true)) (omega (arith, b.requires, t.loop-j-test.true)) a.loop-j.invariant.1)
 
 pub push_row_spec : {M : Type 1} → statement M
 push_row_spec =
@@ -45,5 +45,5 @@ push_row_spec =
     (λ c. long c.before)
     (λ c.
     let a = c.before in
-    let e : a.loop-j.j ≡ (s a).args.t1.count = omega (arith, a.loop-j.invariant.0, c.loop-j-test.false) in
+    let e : a.loop-j.j ≡ (s a).args.row.count = omega (arith, a.loop-j.invariant.0, c.loop-j-test.false) in
     rw (← e) a.loop-j.invariant.1))

@@ -35,7 +35,7 @@ step_spec =
     (λ c. search rules)
     (λ c κs. search rules)
     (λ c. search rules)
-    (λ c κs. let q = ready_lookup _ _ _ _ _ (ready c.before.before.before _ c.in-Lookup.is) in (q.0, q.1))
+    (λ c κs. let q = ready_lookup _ _ _ _ _ (ready c.before.before _ c.in-Lookup.is) in (q.0, q.1))
     (λ c. let q = ready_lookup _ _ _ _ _ (ready c.before.before.before.before _ c.in-Lookup.is) in omega (arith, q.0))
     (λ c. search rules)
     (λ c κs. ready_binary _ _ _ _ _ (ready c.before.before.before _ c.in-Binary.is))
