@@ -49,13 +49,13 @@ starts Command.Unknown n true = refl
 starts Command.Unknown n false = refl
 starts Command.IdxConst n marked = refl
 starts Command.CurrIdx n marked = refl
-starts (Command.Index o) n marked = elim o [ IdxOp.Add ↦ refl | IdxOp.Sub ↦ refl | IdxOp.Mul ↦ refl | IdxOp.Div ↦ refl ]
+starts (Command.Index o) n marked = elim o as (λ o. starts_verify (tokens_of (Command.Index o) n marked) ≡ false) [ IdxOp.Add ↦ refl | IdxOp.Sub ↦ refl | IdxOp.Mul ↦ refl | IdxOp.Div ↦ refl ]
 starts Command.Const n marked = refl
 starts Command.CurrInputIdx n marked = refl
 starts (Command.Lookup l) n marked =
-    elim l [ AmountList.Input ↦ refl | AmountList.Output ↦ refl | AmountList.InputIssue ↦ refl | AmountList.InputReIssue ↦ refl ]
+    elim l as (λ l. starts_verify (tokens_of (Command.Lookup l) n marked) ≡ false) [ AmountList.Input ↦ refl | AmountList.Output ↦ refl | AmountList.InputIssue ↦ refl | AmountList.InputReIssue ↦ refl ]
 starts (Command.Binary o) n marked =
-    elim o [
+    elim o as (λ o. starts_verify (tokens_of (Command.Binary o) n marked) ≡ false) [
       | BinOp.Add ↦ refl
       | BinOp.Sub ↦ refl
       | BinOp.Mul ↦ refl
@@ -65,10 +65,10 @@ starts (Command.Binary o) n marked =
       | BinOp.BitOr ↦ refl
       | BinOp.Xor ↦ refl
     ]
-starts (Command.Unary o) n marked = elim o [ UnOp.Invert ↦ refl | UnOp.Negate ↦ refl ]
+starts (Command.Unary o) n marked = elim o as (λ o. starts_verify (tokens_of (Command.Unary o) n marked) ≡ false) [ UnOp.Invert ↦ refl | UnOp.Negate ↦ refl ]
 starts Command.PriceOracle1 n marked = refl
 starts Command.PriceOracle1W n marked = refl
-starts (Command.Compare o) n marked = elim o [ CmpOp.Eq ↦ refl | CmpOp.Lt ↦ refl | CmpOp.Leq ↦ refl | CmpOp.Gt ↦ refl | CmpOp.Geq ↦ refl ]
+starts (Command.Compare o) n marked = elim o as (λ o. starts_verify (tokens_of (Command.Compare o) n marked) ≡ false) [ CmpOp.Eq ↦ refl | CmpOp.Lt ↦ refl | CmpOp.Leq ↦ refl | CmpOp.Gt ↦ refl | CmpOp.Geq ↦ refl ]
 
 pub no_bytes : length (script []) ≡ 0
 unfolding script

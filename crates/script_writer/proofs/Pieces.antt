@@ -85,7 +85,8 @@ module _ (code : List ℕ) (at : ℕ) (p : Piece) where
 by_shape : (s : Shape) (row : ScriptRow) (code : List ℕ) (at : ℕ) → at + shape_width s ≤ length code → row.count ≤ 7 → length row.bytes ≡ 7
     → length (bytes_by s row (take (shape_width s) (drop at code))) ≡ length_by s row.count
 by_shape s row code at =
-    elim s [
+    elim s as (λ s. at + shape_width s ≤ length code → row.count ≤ 7 → length row.bytes ≡ 7
+        → length (bytes_by s row (take (shape_width s) (drop at code))) ≡ length_by s row.count) [
       | Shape.Row ↦ λ h f r. length-take-le row.count row.bytes (omega arith)
       | Shape.Constant ↦ λ h f r. constant_long (bytes_value (take 8 (drop at code)))
       | Shape.Oracle ↦ λ h f r. oracle_long (take 32 (take 40 (drop at code))) (bytes_value (drop 32 (take 40 (drop at code)))) (key_long h)
@@ -100,7 +101,7 @@ piece_long p code at w = by_shape p.shape p.row code at w.inside w.fits w.room
 
 few_by : (s : Shape) (count : ℕ) → count ≤ 7 → length_by s count ≤ 53
 few_by s count =
-    elim s [ Shape.Row ↦ λ h. omega arith | Shape.Constant ↦ λ h. omega arith | Shape.Oracle ↦ λ h. omega arith | Shape.OracleW ↦ λ h. omega arith ]
+    elim s as (λ s. count ≤ 7 → length_by s count ≤ 53) [ Shape.Row ↦ λ h. omega arith | Shape.Constant ↦ λ h. omega arith | Shape.Oracle ↦ λ h. omega arith | Shape.OracleW ↦ λ h. omega arith ]
 
 pub piece_few : (p : Piece) (code : List ℕ) (at : ℕ) → Whole p code at → piece_length p ≤ 53
 piece_few p code at w = few_by p.shape p.row.count w.fits

@@ -41,7 +41,7 @@ module _ (c : tie.After-find_rows) where
   begin = start₁ known
 
   abbrev rows : List ℕ
-  rows = c.find_rows.new.1.1.0
+  rows = c.find_rows.new.rows
 
   noted : Rows (records begin) rows (length begin.args.kinds.now)
   noted = c.find_rows.ensures begin.args.places.now begin.args.keys.now

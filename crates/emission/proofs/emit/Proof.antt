@@ -66,10 +66,10 @@ loop-again c =
     let m = c.before.before.before.before.before in
     let a = m.before.before in
     let s = start₁ a in
-    let after = c.put_command.new.1.1.1.1.0 in (
+    let after = c.put_command.new.code in (
       omega (arith, (met-is m).falls, a.loop-end.invariant),
       omega (arith, a.loop-end.invariant),
-      c.put_command.auto.1.1.1.1.0 ∙ a.loop-end.invariant.2,
+      c.put_command.auto.code ∙ a.loop-end.invariant.2,
       subst⁻¹ (λ (n : ℕ). Emitting (records s) s.args.start s.args.code.now m.last_command-last.result.first (a.loop-end.at - n) after) c.size-at.ensures
           (emitting_next (records s) s.args.start s.args.code.now a.loop-end.end a.loop-end.at a.loop-end.code a.loop-end.invariant.3 a.loop-end.invariant.0 s.requires.1.0
           m.loop-end-test.true m.last_command-last.result (met-is m) a.loop-end.invariant.1 after c.put_command.ensures),

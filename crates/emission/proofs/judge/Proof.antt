@@ -57,7 +57,7 @@ loop-again c =
       omega arith,
       grown,
       λ numbers places keys noted whole. judging_next (records a numbers places keys) (start₁ a).args.start a.loop-end.end a.loop-end.bytes a.loop-end.first a.loop-end.later (a.loop-end.invariant.2 numbers places keys noted whole) a.loop-end.invariant.0 whole
-          c.loop-end-test.true (met c) (m.ensures.met numbers places keys (rows-fewer _ _ _ _ noted a.loop-end.invariant.0)) c.IsAmong-later.result c.IsAmong-later.ensures
+          c.loop-end-test.true (met c) (m.ensures.met numbers places keys (rows-fewer _ _ _ _ noted a.loop-end.invariant.0)) c.among_later-later.result c.among_later-later.ensures
           c.terminal_of-first.result c.terminal_of-first.ensures c.size-bytes.result c.size-bytes.ensures,
     )
 

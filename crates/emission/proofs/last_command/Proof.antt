@@ -2,7 +2,6 @@
 use borrow.Author.Rules.{rules}
 use Prim.Native.Nat.{ℕ, ◌-◌, ◌≤◌}
 use mathlib.Core.Path.{◌≡◌, ◌∙◌}
-use mathlib.Core.Logic.{⊎_elim}
 use mathlib.Core.List.{List, []}
 use native.Mathlib.Omega.{arith}
 use Rattle.semantics.specs.Records.{Records, records_of, token_at}
@@ -11,6 +10,7 @@ use Rattle.productions.proofs.Places.{At}
 use Rattle.productions.proofs.Noted.{noted_at, own_tokens}
 use Rattle.emission.proofs.Mets.{met_none, met-row, met_twin, twin_some}
 use Rattle.emission.proofs.last_command.Statement.{statement}
+use Rattle.emission.proofs.last_command.Lts.{then-row-eq-INPUT+else-kind_before-eq-CURR_INP, else-row-eq-INPUT}
 use Rattle.emission.proofs.last_command.Tie as tie
 
 abbrev records : tie.Start → List ℕ → List ℕ → List ℕ → Records
@@ -59,7 +59,10 @@ returns-3 c =
     record {
       falls = omega (arith, own w);
       met = λ numbers places keys p. met-row (records (start w) numbers places keys) (end w) _ _ (found w _ p)
-          (⊎_elim (λ x e f. x.2.left (x.1.ensures numbers places keys ∙ f)) (λ x e f. x.left e) c.if-row-eq-INPUT.branch) _ c.command.ensures;
+          (elim c.if-row-eq-INPUT.branch [
+            | then-row-eq-INPUT+else-kind_before-eq-CURR_INP x ↦ λ e f. x.if-kind_before-eq-CURR_INP.false (x.kind_before.ensures numbers places keys ∙ f)
+            | else-row-eq-INPUT x ↦ λ e f. x.if-row-eq-INPUT.false e
+          ]) _ c.command.ensures;
     }
 
 pub last_command_spec : {M : Type 1} → statement M

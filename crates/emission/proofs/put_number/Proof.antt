@@ -13,7 +13,7 @@ returns c =
     number_put _ _ _ s.args.at s.args.byte s.args.number s.requires.0 s.requires.1 refl c.write_le64.ensures
 
 same_length : tie.Need-shape_of-code
-same_length c = c.write_le64.auto.0 ∙ simp length-set
+same_length c = c.write_le64.auto.s ∙ simp length-set
 
 pub put_number_spec : {M : Type 1} → statement M
 put_number_spec =

@@ -7,11 +7,11 @@ use Rattle.emission.proofs.Buffer.{oracle-put}
 use Rattle.emission.proofs.put_oracle.Statement.{statement}
 use Rattle.emission.proofs.put_oracle.Tie as tie
 
-copied : (c : tie.After-copy) → length c.copy.new.1.1.0 ≡ length c.args.code.now
-copied c = c.copy.auto.1.1.0 ∙ simp length-set
+copied : (c : tie.After-copy) → length c.copy.new.to ≡ length c.args.code.now
+copied c = c.copy.auto.to ∙ simp length-set
 
 same_length : tie.Need-shape_of-code
-same_length c = c.write_le64.auto.0 ∙ copied c.before.before.before.before.before.before
+same_length c = c.write_le64.auto.s ∙ copied c.before.before.before.before.before.before
 
 returns : tie.Need-returns
 returns c =

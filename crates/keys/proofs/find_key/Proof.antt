@@ -79,7 +79,7 @@ find_key_spec =
     invariant-loop-j
     decreases-loop-j
     loop-holds
-    (λ c. omega (arith, (begin c.before).requires.1.there, c.loop-j-test.true, (begin c.before).good))
+    (λ c. omega (arith, (begin c.before).requires.1.there, c.loop-j-test.true, (begin c.before).well_formed))
     (λ c. omega (arith, (begin c.before.before).requires.1.there, c.loop-j-test.true))
     (λ c. omega (arith, c.shared_slice_known-in-loop-j-1.given c.loop-j.j))
     is-same-key-requires

@@ -55,10 +55,10 @@ is_same_key_spec =
     decreases-loop-i
     loop-holds
     (λ c. omega (arith, c.loop-i-test.true))
-    (λ c. omega (arith, c.loop-i-test.true, (begin c.before).requires.0, (begin c.before).good))
+    (λ c. omega (arith, c.loop-i-test.true, (begin c.before).requires.0, (begin c.before).well_formed))
     (λ c κs. omega (arith, c.loop-i-test.true, (begin c.before).requires.0))
     (λ c. omega (arith, c.loop-i-test.true))
-    (λ c. omega (arith, c.loop-i-test.true, (begin c.before.before).requires.1, (begin c.before.before).good))
+    (λ c. omega (arith, c.loop-i-test.true, (begin c.before.before).requires.1, (begin c.before.before).well_formed))
     (λ c κs. omega (arith, c.loop-i-test.true, (begin c.before.before).requires.1))
     returns
     (λ c. omega arith)

@@ -72,10 +72,10 @@ write_keys_spec =
     invariant-loop-j
     decreases-loop-j
     loop-holds
-    (λ c. omega (arith, (begin c.before).requires.1, c.loop-j-test.true, (begin c.before).good))
+    (λ c. omega (arith, (begin c.before).requires.1, c.loop-j-test.true, (begin c.before).well_formed))
     (λ c. omega (arith, (begin c.before.before).requires.0.there, c.loop-j-test.true))
     (λ c. omega (arith, c.shared_slice_known-in-loop-j-1.given c.loop-j.j))
-    (λ c. omega (arith, (begin c.before.before.before).requires.1, c.loop-j-test.true, (begin c.before.before.before).good))
+    (λ c. omega (arith, (begin c.before.before.before).requires.1, c.loop-j-test.true, (begin c.before.before.before).well_formed))
     copy-requires
     (λ c. omega arith)
     (λ c. omega arith)

@@ -6,8 +6,8 @@ use Rattle.sheet.proofs.Laws.{Written, written}
 use Rattle.listing.proofs.list.Statement.{statement}
 use Rattle.listing.proofs.list.Tie as tie
 
-sheet-written : (w : tie.After-write_sheet-n) → Written w.args.code.now w.write_sheet-n.new.1.0 w.write_sheet-n.result
-sheet-written w = written w.args.code.now _ w.write_sheet-n.new.1.0 w.write_sheet-n.result w.write_sheet-n.ensures.0 w.write_sheet-n.ensures.1
+sheet-written : (w : tie.After-write_sheet-n) → Written w.args.code.now w.write_sheet-n.new.out w.write_sheet-n.result
+sheet-written w = written w.args.code.now _ w.write_sheet-n.new.out w.write_sheet-n.result w.write_sheet-n.ensures.0 w.write_sheet-n.ensures.1
 
 pub list_spec : {M : Type 1} → statement M
 list_spec =

@@ -53,10 +53,10 @@ module _ (w : tie.After-push_piece-own) where
   abbrev q : tie.After-piece_of
   q = w.before.before
 
-  written : Front w.push_piece-own.last.1.1.1.0 (s q).args.out.now (own q) w.push_piece-own.result
+  written : Front w.push_piece-own.new.out (s q).args.out.now (own q) w.push_piece-own.result
   written = rw (q.next-here.ensures, (piece q).bytes) at w.push_piece-own.ensures
 
-  long : length w.push_piece-own.last.1.1.1.0 ≡ length (s q).args.out.now
+  long : length w.push_piece-own.new.out ≡ length (s q).args.out.now
   long = front_length written (omega (arith, written.long, room q))
 
 returns : tie.Need-returns-then-marked

@@ -24,7 +24,7 @@ module _ (p : tie.After-push_row-n) where
   out = s.args.out.now
 
   abbrev now₁ : List ℕ
-  now₁ = p.push_row-n.last.1.0
+  now₁ = p.push_row-n.new.out
 
   abbrev bytes₁ : List ℕ
   bytes₁ = 0x6e ∷ 0x6b ∷ []
@@ -44,7 +44,7 @@ module _ (q : tie.After-push_bytes8-n) where
   n₂ = p₂.push_row-n.result + q.push_bytes8-n.result
 
   abbrev now₂ : List ℕ
-  now₂ = put_mid p₂.push_row-n.result (length (now₁ p₂) - p₂.push_row-n.result) (now₁ p₂) q.push_bytes8-n.last.1.0
+  now₂ = put_mid p₂.push_row-n.result (length (now₁ p₂) - p₂.push_row-n.result) (now₁ p₂) q.push_bytes8-n.new.out
 
   abbrev time : ℕ
   time = p₂.read_le64-time.result
@@ -70,12 +70,12 @@ module _ (r : tie.After-push_row-n-2) where
   n₃ = n₂ q₃ + r.push_row-n-2.result
 
   abbrev now₃ : List ℕ
-  now₃ = put_mid (n₂ q₃) (length (now₂ q₃) - n₂ q₃) (now₂ q₃) r.push_row-n-2.last.1.0
+  now₃ = put_mid (n₂ q₃) (length (now₂ q₃) - n₂ q₃) (now₂ q₃) r.push_row-n-2.new.out
 
   abbrev bytes₃ : List ℕ
   bytes₃ = bytes₂ q₃ ++ (0xdf ∷ 0x69 ∷ 0x7e ∷ 0xa8 ∷ [])
 
-  tested : Front r.push_row-n-2.last.1.0 (mid_of (n₂ q₃) (length (now₂ q₃) - n₂ q₃) (now₂ q₃)) (0xdf ∷ 0x69 ∷ 0x7e ∷ 0xa8 ∷ []) r.push_row-n-2.result
+  tested : Front r.push_row-n-2.new.out (mid_of (n₂ q₃) (length (now₂ q₃) - n₂ q₃) (now₂ q₃)) (0xdf ∷ 0x69 ∷ 0x7e ∷ 0xa8 ∷ []) r.push_row-n-2.result
   tested = rw (p₂ q₃).four_opcodes-test.ensures.is at r.push_row-n-2.ensures
 
   three : Front now₃ (out (p₂ q₃)) bytes₃ n₃
@@ -102,7 +102,7 @@ module _ (k : tie.After-push_bytes32-n) where
   n₄ = n₃ r₄ + k.push_bytes32-n.result
 
   abbrev now₄ : List ℕ
-  now₄ = put_mid (n₃ r₄) (length (now₃ r₄) - n₃ r₄) (now₃ r₄) k.push_bytes32-n.last.1.1.0
+  now₄ = put_mid (n₃ r₄) (length (now₃ r₄) - n₃ r₄) (now₃ r₄) k.push_bytes32-n.new.out
 
   four : Front now₄ s₄.args.out.now (bytes₃ r₄ ++ script (bytes32 key ∷ [])) n₄
   four = front_rest (three r₄) k.push_bytes32-n.ensures
@@ -118,11 +118,11 @@ module _ (e : tie.After-push_row-n-3) where
   abbrev k₅ : tie.After-push_bytes32-n
   k₅ = e.before.before.before.before
 
-  ended : Front e.push_row-n-3.last.1.0 (mid_of (n₄ k₅) (length (now₄ k₅) - n₄ k₅) (now₄ k₅)) (0xc2 ∷ 0x6c ∷ []) e.push_row-n-3.result
-  ended = rw (p₂ (q₃ (r₄ k₅))).before.before.two-opcodes2.ensures.is at e.push_row-n-3.ensures
+  ended : Front e.push_row-n-3.new.out (mid_of (n₄ k₅) (length (now₄ k₅) - n₄ k₅) (now₄ k₅)) (0xc2 ∷ 0x6c ∷ []) e.push_row-n-3.result
+  ended = rw (p₂ (q₃ (r₄ k₅))).before.before.two_opcodes-closing.ensures.is at e.push_row-n-3.ensures
 
   abbrev now₅ : List ℕ
-  now₅ = put_mid (n₄ k₅) (length (now₄ k₅) - n₄ k₅) (now₄ k₅) e.push_row-n-3.last.1.0
+  now₅ = put_mid (n₄ k₅) (length (now₄ k₅) - n₄ k₅) (now₄ k₅) e.push_row-n-3.new.out
 
   five : Front now₅ (s₄ k₅).args.out.now (bytes₃ (r₄ k₅) ++ script (bytes32 (key k₅) ∷ []) ++ (0xc2 ∷ 0x6c ∷ [])) (n₄ k₅ + e.push_row-n-3.result)
   five = front_rest (four k₅) ended
@@ -155,7 +155,7 @@ push_oracle_spec =
     (λ c. let k = c.before.before in omega (arith, count₄ k, long₄ k, (s₄ k).requires.1))
     (λ c. let k = c.before.before in omega (arith, count₄ k, long₄ k, (s₄ k).requires.1))
     (λ c. let k = c.before.before in omega (arith, count₄ k, long₄ k, (s₄ k).requires.1))
-    (λ c κs. let k = c.before.before.before in row_fits _ _ _ (p₂ (q₃ (r₄ k))).before.before.two-opcodes2.ensures (front-room 2 (four k) (omega (arith, count₄ k, (s₄ k).requires.1))))
+    (λ c κs. let k = c.before.before.before in row_fits _ _ _ (p₂ (q₃ (r₄ k))).before.before.two_opcodes-closing.ensures (front-room 2 (four k) (omega (arith, count₄ k, (s₄ k).requires.1))))
     (λ c. let e = c.before.before in omega (arith, count₄ (k₅ e), (ended e).long))
     (λ c. let e = c.before.before in front_length (five e) (omega (arith, count₄ (k₅ e), (ended e).long, (s₄ (k₅ e)).requires.1)))
     (λ c. let e = c.before.before in rw (← (p₂ (q₃ (r₄ (k₅ e)))).before.before.before.before.before.read_le64.ensures.value, ← oracle-bytes (key (k₅ e)) (time (q₃ (r₄ (k₅ e))))) (five e)))

@@ -21,7 +21,7 @@ module _ (p : tie.After-push_row-n) where
   s = p.before.before.before.before.before.before
 
   abbrev now₁ : List ℕ
-  now₁ = p.push_row-n.last.1.0
+  now₁ = p.push_row-n.new.out
 
   one : Front now₁ s.args.out.now (0x6b ∷ []) p.push_row-n.result
   one = rw p.opcode.ensures.is at p.push_row-n.ensures
@@ -41,7 +41,7 @@ module _ (q : tie.After-push_oracle-n) where
   n₂ = p₂.push_row-n.result + q.push_oracle-n.result
 
   abbrev now₂ : List ℕ
-  now₂ = put_mid p₂.push_row-n.result (length (now₁ p₂) - p₂.push_row-n.result) (now₁ p₂) q.push_oracle-n.last.1.1.0
+  now₂ = put_mid p₂.push_row-n.result (length (now₁ p₂) - p₂.push_row-n.result) (now₁ p₂) q.push_oracle-n.new.out
 
   abbrev key : List ℕ
   key = take 32 (drop s₂.args.at s₂.args.code.now)
@@ -69,11 +69,11 @@ module _ (e : tie.After-push_row-n-2) where
   abbrev q₃ : tie.After-push_oracle-n
   q₃ = e.before.before.before.before
 
-  ended : Front e.push_row-n-2.last.1.0 (mid_of (n₂ q₃) (length (now₂ q₃) - n₂ q₃) (now₂ q₃)) (0x6c ∷ 0x7c ∷ []) e.push_row-n-2.result
+  ended : Front e.push_row-n-2.new.out (mid_of (n₂ q₃) (length (now₂ q₃) - n₂ q₃) (now₂ q₃)) (0x6c ∷ 0x7c ∷ []) e.push_row-n-2.result
   ended = rw (p₂ q₃).two_opcodes-closing.ensures.is at e.push_row-n-2.ensures
 
   abbrev now₃ : List ℕ
-  now₃ = put_mid (n₂ q₃) (length (now₂ q₃) - n₂ q₃) (now₂ q₃) e.push_row-n-2.last.1.0
+  now₃ = put_mid (n₂ q₃) (length (now₂ q₃) - n₂ q₃) (now₂ q₃) e.push_row-n-2.new.out
 
   three : Front now₃ (s₂ q₃).args.out.now ((0x6b ∷ []) ++ script (oracle_form (key q₃) (time q₃)) ++ (0x6c ∷ 0x7c ∷ [])) (n₂ q₃ + e.push_row-n-2.result)
   three = front_rest (two q₃) ended

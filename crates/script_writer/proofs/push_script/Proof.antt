@@ -77,8 +77,8 @@ push_script_spec =
     (λ c. let b = a c.before in omega (arith, reached b, long b))
     (λ c. let b = a c.before in omega (arith, reached b, long b))
     (λ c κs. let t = c.before.before in (operands t, front-room _ (a t).loop-at.invariant.front (room t)))
-    (λ c. let w = c.before.before.before in let t = w.before.before.before in omega (arith, room t, w.push_next-taken.ensures.0.long, (begin (a t)).good))
-    (λ c. let t = c.before.before.before.before.before.before in omega (arith, marked t, (begin (a t)).good))
+    (λ c. let w = c.before.before.before in let t = w.before.before.before in omega (arith, room t, w.push_next-taken.ensures.0.long, (begin (a t)).well_formed))
+    (λ c. let t = c.before.before.before.before.before.before in omega (arith, marked t, (begin (a t)).well_formed))
     (λ c. let w = c.before.before.before in let t = w.before.before.before in omega (arith, operands t, inside t, w.push_next-taken.ensures.1))
     loop-again
     (λ c. long c.before)

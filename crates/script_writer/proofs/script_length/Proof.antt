@@ -63,7 +63,7 @@ script_length_spec =
     (λ c. marked c.before)
     (λ c κs. operands c.before)
     (λ c. omega (arith, few c.before.before.before, c.next_length-taken.ensures.0))
-    (λ c. let t = c.before.before.before in omega (arith, marked t, (begin (a t)).good))
+    (λ c. let t = c.before.before.before in omega (arith, marked t, (begin (a t)).well_formed))
     (λ c. let t = c.before.before.before in omega (arith, operands t, inside t, c.next_length-taken.ensures.1))
     loop-again
     (λ c.

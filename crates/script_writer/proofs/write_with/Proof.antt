@@ -37,7 +37,7 @@ module _ (u : tie.Else-not-mark) where
   k = u.before.before.before.before.before.before.before.before.before.before.before
 
   abbrev marks : List Bool
-  marks = u.mark.last.1.1.1.0
+  marks = u.mark.new.marks
 
   narrow-told : narrow_code (code k) ≡ true
   narrow-told = sym u.mark.ensures.narrow_is ∙ not-false _ u.if-not-mark.false-raw
@@ -53,30 +53,30 @@ returns c =
 
 has-room-requires : tie.Need-has_room-requires
 has-room-requires c κs =
-    let u = c.before in
+    let u = c in
     let b = k u in
     (passed_as (λ s f. omega (arith, f.2)) (s b).requires.1, fits (code b) (bytes b) (s b).args.out.now _ _ (passes b) (narrow-told u) _ _ (marked u))
 
 returns-2 : tie.Need-returns-then-not-has_room
 returns-2 c =
-    let u = c.before.before.before in
+    let u = c.before.before in
     let b = k u in
     let lacking = sym c.has_room.ensures ∙ not-true _ c.if-not-has_room.true-raw in
     refused-room (code b) (bytes b) (s b).args.out.now _ _ (passes b) (narrow-told u) _ _ (marked u) lacking
 
 push-script-requires : tie.Need-push_script-requires
 push-script-requires c κs =
-    let w = c.before.before in
-    let u = w.before.before.before in
+    let w = c.before in
+    let u = w.before.before in
     let b = k u in
-    (passed_as (λ s f. omega (arith, f.2)) (s b).requires.1, leb-true _ _ (sym w.has_room.ensures ∙ not-false _ w.if-not-mark.false-raw))
+    (passed_as (λ s f. omega (arith, f.2)) (s b).requires.1, leb-true _ _ (sym w.has_room.ensures ∙ not-false _ w.if-not-has_room.false-raw))
 
 returns-3 : tie.Need-returns
 returns-3 c =
-    let w = c.before.before.before.before.before in
-    let u = w.before.before.before in
+    let w = c.before.before.before.before in
+    let u = w.before.before in
     let b = k u in
-    let roomy = sym w.has_room.ensures ∙ not-false _ w.if-not-mark.false-raw in
+    let roomy = sym w.has_room.ensures ∙ not-false _ w.if-not-has_room.false-raw in
     wrote_all (code b) (bytes b) (s b).args.out.now _ _ (passes b) (narrow-told u) _ _ (marked u) roomy _ _ c.push_script.ensures
 
 pub write_with_spec : {M : Type 1} → statement M

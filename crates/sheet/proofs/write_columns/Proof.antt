@@ -33,7 +33,7 @@ module _ (t : tie.After-right_align) where
   s₁ = t.before.before.before
 
   abbrev first : List ℕ
-  first = set (put_mid 0 5 (xs s₁) t.right_align.last.1.0) 5 blank
+  first = set (put_mid 0 5 (xs s₁) t.right_align.new.column) 5 blank
 
   one : Front first (xs s₁) (offset s₁) 6
   one =
@@ -51,11 +51,11 @@ module _ (u : tie.After-right_align-2) where
   abbrev s₂ : tie.Start
   s₂ = s₁ t₂
 
-  two-column : Front (put_mid 6 2 (first t₂) u.right_align-2.last.1.0) (xs s₂) (offset s₂ ++ right_aligned 2 (decimal s₂.args.command)) 8
+  two-column : Front (put_mid 6 2 (first t₂) u.right_align-2.new.column) (xs s₂) (offset s₂ ++ right_aligned 2 (decimal s₂.args.command)) 8
   two-column = let l = long s₂ in front_column 2 (decimal s₂.args.command) (one t₂) (omega arith) s₂.requires.2 u.right_align-2.ensures
 
   abbrev second : List ℕ
-  second = set (put_mid 6 2 (first t₂) u.right_align-2.last.1.0) 8 blank
+  second = set (put_mid 6 2 (first t₂) u.right_align-2.new.column) 8 blank
 
   two : Front second (xs s₂) (command s₂) 9
   two = let l = long s₂ in front-set blank two-column (omega arith)
@@ -71,10 +71,10 @@ module _ (v : tie.After-right_align-3) where
   abbrev s₃ : tie.Start
   s₃ = s₂ u₃
 
-  three : Front (put_mid 9 20 (second u₃) v.right_align-3.last.1.0) (xs s₃) (command s₃ ++ right_aligned 20 (text_of s₃.args.operand)) 29
+  three : Front (put_mid 9 20 (second u₃) v.right_align-3.new.column) (xs s₃) (command s₃ ++ right_aligned 20 (text_of s₃.args.operand)) 29
   three = let l = long s₃ in front_column 20 (text_of s₃.args.operand) (two u₃) (omega arith) s₃.requires.3 v.right_align-3.ensures
 
-  three-long : length (put_mid 9 20 (second u₃) v.right_align-3.last.1.0) ≡ 30
+  three-long : length (put_mid 9 20 (second u₃) v.right_align-3.new.column) ≡ 30
   three-long = let l = long s₃ in front_length three (omega arith) ∙ l
 
 returns : tie.Need-returns

@@ -66,7 +66,7 @@ write_lines_spec =
     invariant-loop-at
     decreases-loop-at
     (λ c. let s = c.before.before in (omega arith, none_yet s.args.code.now s.args.out.now s.requires.0 s.requires.1))
-    (λ c. omega (arith, room c, (begin c.before).good))
+    (λ c. omega (arith, room c, (begin c.before).well_formed))
     (λ c. search rules)
     (λ c. omega (arith, room c, long c.before))
     (λ c. omega (arith, room c, long c.before))

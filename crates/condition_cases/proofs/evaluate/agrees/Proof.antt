@@ -14,10 +14,10 @@ use Rattle.condition_cases.proofs.evaluate.agrees.Tie as tie
 
 -- what the call leaves is as long as the buffer that it was lent
 same_length : (c : tie.After-call-answer)
-    → length (c.call-answer.new.1.0 ++ drop c.word-room.result c.filled-checks.result) ≡ 12288
+    → length (c.call-answer.new.checks ++ drop c.word-room.result c.filled-checks.result) ≡ 12288
 same_length c =
     let f = c.before.before.before.before.before in
-    full-after 12288 fill c.word-room.result f.filled-checks.result c.call-answer.new.1.0 f.filled-checks.ensures c.call-answer.auto.1.0
+    full-after 12288 fill c.word-room.result f.filled-checks.result c.call-answer.new.checks f.filled-checks.ensures c.call-answer.auto.checks
 
 returns : tie.Need-returns-then-room-gt-ROOM
 returns c =

@@ -45,7 +45,7 @@ returns c =
     let w = u.before.before.before in
     let s = start w.before in
     let a = s.args in
-    turned (env s) a.code.now a.vals.now a.idxs.now a.spot u.step.new.1.1.1.1.0 u.step.new.1.1.1.1.1.0 (cursor w) (here w)
+    turned (env s) a.code.now a.vals.now a.idxs.now a.spot u.step.new.vals u.step.new.idxs (cursor w) (here w)
     u.step.result u.step.ensures.1 _ c.onward.result c.onward.ensures t.in-Turned.is
 
 returns-2 : tie.Need-returns-in-Amount
@@ -56,9 +56,9 @@ returns-2 c =
     let w = u.before.before.before in
     let s = start w.before in
     let a = s.args in
-    asked (env s) a.code.now a.vals.now a.idxs.now a.spot u.step.new.1.1.1.1.0 u.step.new.1.1.1.1.1.0 (cursor w) (here w)
+    asked (env s) a.code.now a.vals.now a.idxs.now a.spot u.step.new.vals u.step.new.idxs (cursor w) (here w)
     u.step.result u.step.ensures.1 l.step_lookup-turn.result c.onward-in-Amount.result c.onward-in-Amount.ensures _ _ _ t.in-Amount.is
-    l.step_lookup-turn.new.1.1.1.1.1.1.1.1.1.1.0 (l.step_lookup-turn.ensures a.current _)
+    l.step_lookup-turn.new.vals (l.step_lookup-turn.ensures a.current _)
 
 returns-3 : tie.Need-returns-in-Oracle
 returns-3 c =
@@ -66,11 +66,11 @@ returns-3 c =
     let w = u.before.before.before in
     let s = start w.before in
     let a = s.args in
-    waits (env s) a.code.now a.vals.now a.idxs.now a.spot u.step.new.1.1.1.1.0 u.step.new.1.1.1.1.1.0 (cursor w) (here w)
+    waits (env s) a.code.now a.vals.now a.idxs.now a.spot u.step.new.vals u.step.new.idxs (cursor w) (here w)
     u.step.result u.step.ensures.1 u.step.ensures.0 c.in-Oracle.is
 
 add-next : tie.Need-overflow_add-next
-add-next c = let s = start c.before in omega (arith, s.requires.operands, rw c.command_of-command.ensures at c.width_of.ensures, s.good.0.0)
+add-next c = let s = start c.before in omega (arith, s.requires.operands, rw c.command_of-command.ensures at c.width_of.ensures, s.well_formed.0.0)
 
 pub fetch_spec : {M : Type 1} → statement M
 fetch_spec =

@@ -302,14 +302,14 @@ module _ {M : Type 1} {𝓤 : Ura M} (𝓛 : Logic 𝓤) (mem : Memory → SProp
         & lent_slice vals-loan & lent_slice idxs-loan & t.here & tt)
         (span #code 10 ++ given #vals ∷ given #idxs ∷ datum spot t.here t.is-here ∷ [])
         (λ r u. Fetched env code.now p.values p.indexes t.here u.0 u.1.0 r) refl
-        (tt, tt, shown 𝓛 (fetches env code.now bytes.now ends.now out.now sound p.outs p.values p.indexes p.w t.here t.good))
+        (tt, tt, shown 𝓛 (fetches env code.now bytes.now ends.now out.now sound p.outs p.values p.indexes p.w t.here t.well_formed))
         (λ r u. refl) next (λ r u is-r told.
         slice_back ! idxs-loan #idxs κ-idxs (all + 1) u.1.0 _ refl (λ same-idxs.
         slice_back ! vals-loan #vals κ-vals all u.0 _ refl (λ same_vals. clears ! (next-local + 1) locals $
         fetched (record { outs = p.outs; values = u.0; indexes = u.1.0; w = p.w; is-w = p.is-w }) r is-r
-        (fetched_good env code.now bytes.now ends.now out.now sound p.outs p.values p.indexes p.w t.here t.good
+        (fetched_good env code.now bytes.now ends.now out.now sound p.outs p.values p.indexes p.w t.here t.well_formed
         u.0 u.1.0 same_vals same-idxs r told)
-        (fetched_falls env code.now bytes.now ends.now out.now sound p.outs p.values p.indexes p.w t.here t.good
+        (fetched_falls env code.now bytes.now ends.now out.now sound p.outs p.values p.indexes p.w t.here t.well_formed
         u.0 u.1.0 r told))))))
 
   -- ---- the whole: w and the spot are made, and the loop is turned

@@ -14,10 +14,10 @@ use Rattle.token_cases.proofs.decode.agrees.Tie as tie
 
 -- what the call leaves is as long as the buffer that it was lent
 same_length : (c : tie.After-call-answer)
-    → length (c.call-answer.new.1.0 ++ drop c.word-room.result c.filled-code.result) ≡ 9300
+    → length (c.call-answer.new.code ++ drop c.word-room.result c.filled-code.result) ≡ 9300
 same_length c =
     let f = c.before.before.before.before.before in
-    full-after 9300 fill c.word-room.result f.filled-code.result c.call-answer.new.1.0 f.filled-code.ensures c.call-answer.auto.1.0
+    full-after 9300 fill c.word-room.result f.filled-code.result c.call-answer.new.code f.filled-code.ensures c.call-answer.auto.code
 
 returns : tie.Need-returns-then-room-gt-ROOM
 returns c =

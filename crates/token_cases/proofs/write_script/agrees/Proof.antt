@@ -14,10 +14,10 @@ use Rattle.token_cases.proofs.write_script.agrees.Tie as tie
 
 -- what the call leaves is as long as the buffer that it was lent
 same_length : (c : tie.After-call-answer)
-    → length (c.call-answer.new.1.0 ++ drop c.word-room.result c.filled-script.result) ≡ 5200
+    → length (c.call-answer.new.script ++ drop c.word-room.result c.filled-script.result) ≡ 5200
 same_length c =
     let f = c.before.before.before.before.before in
-    full-after 5200 fill c.word-room.result f.filled-script.result c.call-answer.new.1.0 f.filled-script.ensures c.call-answer.auto.1.0
+    full-after 5200 fill c.word-room.result f.filled-script.result c.call-answer.new.script f.filled-script.ensures c.call-answer.auto.script
 
 returns : tie.Need-returns-then-room-gt-ROOM
 returns c =
