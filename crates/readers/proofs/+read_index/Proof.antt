@@ -74,8 +74,8 @@ module _ (t : ℕ) (c : lts.After-row_before-row (called t) (pre t) read-index.P
   abbrev turn : lts.At-loop-count (called t) (pre t) read-index.Post Inv decreases-loop-count
   turn = c.before.before
 
-  row_is : (r : Records) → Rows r (rows t turn) (last t turn) → c.row_before-row.result ≡ row_found (last_row (before (token_at r) turn.loop.end))
-  row_is r p = c.row_before-row.ensures ∙ p.noted turn.loop.end turn.loop.invariant.low
+  row_is : (r : Records) → Rows r (rows t turn) (last t turn) → c.row_before-row.result ≡ row_found (last_row (before (token_at r) turn.loop-count.end))
+  row_is r p = c.row_before-row.ensures ∙ p.noted turn.loop-count.end turn.loop-count.invariant.low
 
 -- and whose width is
 module _ (t : ℕ) (w : lts.After-width-end (called t) (pre t) read-index.Post Inv decreases-loop-count) where
@@ -85,20 +85,20 @@ module _ (t : ℕ) (w : lts.After-width-end (called t) (pre t) read-index.Post I
   abbrev at : lts.At-loop-count (called t) (pre t) read-index.Post Inv decreases-loop-count
   at = turn t row
 
-  abbrev some : 0 < at.loop.count
-  some = row.before.loop-test.true
+  abbrev some : 0 < at.loop-count.count
+  some = row.loop-count-test.true
 
   abbrev k : ℕ
-  k = row.row_before.result
+  k = row.row_before-row.result
 
   abbrev start : ℕ
-  start = at.loop.end - w.width-end.result
+  start = at.loop-count.end - w.width-end.result
 
-  own : (1 ≤ w.width-end.result) × (w.width-end.result ≤ at.loop.end)
-  own = own_tokens (rows t at) (last t at) at.loop.end k _ (fits t at) at.loop.invariant.low row.row_before.ensures (omega (arith, w.if-row-ge-BETWEEN.false)) w.width-end.ensures
+  own : (1 ≤ w.width-end.result) × (w.width-end.result ≤ at.loop-count.end)
+  own = own_tokens (rows t at) (last t at) at.loop-count.end k _ (fits t at) at.loop-count.invariant.low row.row_before-row.ensures (omega (arith, w.if-row-ge-BETWEEN.false)) w.width-end.ensures
 
-  found : (r : Records) → Rows r (rows t at) (last t at) → At (token_at r) at.loop.end k start
-  found = noted_at (rows t at) (last t at) at.loop.end k _ (fits t at) at.loop.invariant.low row.row_before.ensures (omega (arith, w.if-row-ge-BETWEEN.false)) w.width-end.ensures
+  found : (r : Records) → Rows r (rows t at) (last t at) → At (token_at r) at.loop-count.end k start
+  found = noted_at (rows t at) (last t at) at.loop-count.end k _ (fits t at) at.loop-count.invariant.low row.row_before-row.ensures (omega (arith, w.if-row-ge-BETWEEN.false)) w.width-end.ensures
 
 -- the right operand is read
 module _ (t : ℕ) (c : lts.In-Read (called t) (pre t) read-index.Post Inv decreases-loop-count) where
@@ -130,22 +130,22 @@ again-2 t c = let w = c.before.before in let h = own t w in
     index_plain r _ _ _ (found t w r p) c.if-row-lt-INDEX_OPERATIONS.false c.if-row-lt-INDEX_MUL.true _ (some t w)
 
 right-requires : (t : ℕ) → lts.Need-read_index-requires (called t) (pre t) read-index.Post Inv decreases-loop-count
-right-requires t c κs = let w = c.before.before in let h = own t w in let l = (at t w).loop.invariant.low in
-    (omega (arith, h, l, (at t w).before.requires.0), fitting_fewer (rows t (at t w)) (last t (at t w)) _ (fits t (at t w)) (omega (arith, h, l)))
+right-requires t c κs = let w = c.before.before in let h = own t w in let l = (at t w).loop-count.invariant.low in
+    (omega (arith, h, l, (at t w).requires.0), fitting_fewer (rows t (at t w)) (last t (at t w)) _ (fits t (at t w)) (omega (arith, h, l)))
 
 returns-3 : (t : ℕ) → lts.Need-returns-in_default (called t) (pre t) read-index.Post Inv decreases-loop-count
 returns-3 t c = let right = c.before in let w = right.before.before.before in
     nothing_read t (at t w) λ r p.
     converted_none r _ _ _ (found t w r p) right.if-row-lt-INDEX_MUL.false w.if-row-ge-BETWEEN.false _
-    (right.read_index.ensures.right r (rows-fewer r _ _ _ p (omega (arith, own t w, (at t w).loop.invariant.low)))) c.in_default.is _ (some t w)
+    (right.read_index.ensures.right r (rows-fewer r _ _ _ p (omega (arith, own t w, (at t w).loop-count.invariant.low)))) c.in_default.is _ (some t w)
 
 between-requires : (t : ℕ) → lts.Need-row_before-requires (called t) (pre t) read-index.Post Inv decreases-loop-count
-between-requires t c κs = let w = wide t c in omega (arith, low t c, (at t w).loop.invariant.low, (fits t (at t w)).few)
+between-requires t c κs = let w = wide t c in omega (arith, low t c, (at t w).loop-count.invariant.low, (fits t (at t w)).few)
 
 returns-4 : (t : ℕ) → lts.Need-returns-then-row_before-ne-BETWEEN (called t) (pre t) read-index.Post Inv decreases-loop-count
 returns-4 t c =
     let b = c.before in let k = b.before in let w = wide t k in let right = k.before in
-    let l = (at t w).loop.invariant.low in
+    let l = (at t w).loop-count.invariant.low in
     nothing_read t (at t w) λ r p.
     unconverted r _ _ _ (found t w r p) right.if-row-lt-INDEX_MUL.false w.if-row-ge-BETWEEN.false _
     (right.read_index.ensures.right r (rows-fewer r _ _ _ p (omega (arith, own t w, l)))) _ k.in-Read.is _
@@ -154,12 +154,12 @@ returns-4 t c =
 sub-between : (t : ℕ) → lts.Need-overflow_sub-end-in-loop-count (called t) (pre t) read-index.Post Inv decreases-loop-count
 sub-between t c =
     let b = c.before in let k = b.before in let w = wide t k in
-    between_there (rows t (at t w)) (last t (at t w)) _ _ (fits t (at t w)) (omega (arith, low t k, (at t w).loop.invariant.low)) b.row_before.ensures c.if-row_before-ne-BETWEEN.false
+    between_there (rows t (at t w)) (last t (at t w)) _ _ (fits t (at t w)) (omega (arith, low t k, (at t w).loop-count.invariant.low)) b.row_before.ensures c.if-row_before-ne-BETWEEN.false
 
 again-3 : (t : ℕ) → lts.Need-loop-count-preserved (called t) (pre t) read-index.Post Inv decreases-loop-count
 again-3 t c =
     let b = c.before in let k = b.before in let w = wide t k in let right = k.before in
-    let l = (at t w).loop.invariant.low in let h = own t w in let m = low t k in
+    let l = (at t w).loop-count.invariant.low in let h = own t w in let m = low t k in
     let e : middle t k ≤ last t (at t w) = omega (arith, m, l) in
     next t (at t w) _ _ (omega (arith, m, h)) (omega (arith, m, h)) λ r p.
     converted-left r _ _ _ (found t w r p) right.if-row-lt-INDEX_MUL.false w.if-row-ge-BETWEEN.false _
@@ -170,22 +170,22 @@ returns-5 : (t : ℕ) → lts.Need-returns (called t) (pre t) read-index.Post In
 returns-5 t c = let a = c.before in
     loop_done indexes (rows t a) (last t a) read one (λ ts. refl) _ _ a.loop-count.invariant (omega (arith, c.loop-count-test.false))
 
-pub read_index_spec : {M : Type 1} → statement M
-read_index_spec = close μ λ t. lts.spec (called t)
+pub +read_index_spec : {M : Type 1} → statement M
++read_index_spec = close μ λ t. lts.spec (called t)
     (pre t)
     read-index.Post
     Inv
     decreases-loop-count
     (λ c. loop_start indexes _ _)
-    (λ c κs. let a = c.before in omega (arith, a.loop.invariant.low, (fits t a).few))
+    (λ c κs. let a = c.before in omega (arith, a.loop-count.invariant.low, (fits t a).few))
     (returns t)
     (returns-2 t)
-    (λ c κs. omega (arith, c.if2.false))
+    (λ c κs. omega (arith, c.if-row-ge-BETWEEN.false))
     (λ c. (own t c).1)
     (λ c. some t c.before)
     (λ c. omega (arith, own t c.before))
     (again t)
-    (λ c. let w = c.before.before in omega (arith, (at t w).loop.invariant.room, own t w, (fits t (at t w)).few))
+    (λ c. let w = c.before.before in omega (arith, (at t w).loop-count.invariant.room, own t w, (fits t (at t w)).few))
     (λ c. omega (arith, own t c.before.before))
     (again-2 t)
     (right-requires t)
@@ -198,5 +198,5 @@ read_index_spec = close μ λ t. lts.spec (called t)
     (sub-between t)
     (λ c. let k = c.before.before in omega (arith, low t k, own t (wide t k)))
     (again-3 t)
-    (λ c. let a = c.before in omega (arith, a.loop.invariant.low, (fits t a).few))
+    (λ c. let a = c.before in omega (arith, a.loop-count.invariant.low, (fits t a).few))
     (returns-5 t)

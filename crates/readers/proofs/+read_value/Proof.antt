@@ -78,26 +78,26 @@ module _ (t : ℕ) (w : lts.After-width-end (called t) (pre t) read-value.Post I
   abbrev at : lts.At-loop-count (called t) (pre t) read-value.Post Inv decreases-loop-count
   at = row.before.before
 
-  abbrev some : 0 < at.loop.count
-  some = row.before.loop-test.true
+  abbrev some : 0 < at.loop-count.count
+  some = row.loop-count-test.true
 
   abbrev k : ℕ
-  k = row.row_before.result
+  k = row.row_before-row.result
 
   abbrev start : ℕ
-  start = at.loop.end - w.width-end.result
+  start = at.loop-count.end - w.width-end.result
 
-  own : (1 ≤ w.width-end.result) × (w.width-end.result ≤ at.loop.end)
-  own = own_tokens (rows t at) (last t at) at.loop.end k _ (fits t at) at.loop.invariant.low row.row_before.ensures (omega (arith, w.if-row-ge-INDEXES.false)) w.width-end.ensures
+  own : (1 ≤ w.width-end.result) × (w.width-end.result ≤ at.loop-count.end)
+  own = own_tokens (rows t at) (last t at) at.loop-count.end k _ (fits t at) at.loop-count.invariant.low row.row_before-row.ensures (omega (arith, w.if-row-ge-INDEXES.false)) w.width-end.ensures
 
-  found : (r : Records) → Rows r (rows t at) (last t at) → At (token_at r) at.loop.end k start
-  found = noted_at (rows t at) (last t at) at.loop.end k _ (fits t at) at.loop.invariant.low row.row_before.ensures (omega (arith, w.if-row-ge-INDEXES.false)) w.width-end.ensures
+  found : (r : Records) → Rows r (rows t at) (last t at) → At (token_at r) at.loop-count.end k start
+  found = noted_at (rows t at) (last t at) at.loop-count.end k _ (fits t at) at.loop-count.invariant.low row.row_before-row.ensures (omega (arith, w.if-row-ge-INDEXES.false)) w.width-end.ensures
 
   operand-fits : Fitting (rows t at) start
-  operand-fits = fitting_fewer (rows t at) (last t at) start (fits t at) (omega (arith, own, at.loop.invariant.low))
+  operand-fits = fitting_fewer (rows t at) (last t at) start (fits t at) (omega (arith, own, at.loop-count.invariant.low))
 
   operand_rows : (r : Records) → Rows r (rows t at) (last t at) → Rows r (rows t at) start
-  operand_rows r p = rows-fewer r (rows t at) (last t at) start p (omega (arith, own, at.loop.invariant.low))
+  operand_rows r p = rows-fewer r (rows t at) (last t at) start p (omega (arith, own, at.loop-count.invariant.low))
 
 -- an index is read
 module _ (t : ℕ) (c : lts.In-Read (called t) (pre t) read-value.Post Inv decreases-loop-count) where
@@ -141,7 +141,7 @@ again-3 t c = let w = c.before.before.before in let h = own t w in
 
 right-requires : (t : ℕ) → lts.Need-read_value-requires (called t) (pre t) read-value.Post Inv decreases-loop-count
 right-requires t c κs = let w = c.before.before.before.before in
-    (omega (arith, own t w, (at t w).loop.invariant.low, (at t w).before.requires.0), operand-fits t w)
+    (omega (arith, own t w, (at t w).loop-count.invariant.low, (at t w).requires.0), operand-fits t w)
 
 returns-3 : (t : ℕ) → lts.Need-returns-in_default-read_value (called t) (pre t) read-value.Post Inv decreases-loop-count
 returns-3 t c = let x = c.before in let b = x.before in let w = b.before.before.before.before in
@@ -169,21 +169,21 @@ returns-4 : (t : ℕ) → lts.Need-returns (called t) (pre t) read-value.Post In
 returns-4 t c = let a = c.before in
     loop_done values (rows t a) (last t a) read one (λ ts. refl) _ _ a.loop-count.invariant (omega (arith, c.loop-count-test.false))
 
-pub read_value_spec : {M : Type 1} → statement M
-read_value_spec = close μ λ t. lts.spec (called t)
+pub +read_value_spec : {M : Type 1} → statement M
++read_value_spec = close μ λ t. lts.spec (called t)
     (pre t)
     read-value.Post
     Inv
     decreases-loop-count
     (λ c. loop_start values _ _)
-    (λ c κs. let a = c.before in omega (arith, a.loop.invariant.low, (fits t a).few))
+    (λ c κs. let a = c.before in omega (arith, a.loop-count.invariant.low, (fits t a).few))
     (returns t)
-    (λ c κs. omega (arith, c.if1.false))
+    (λ c κs. omega (arith, c.if-row-ge-INDEXES.false))
     (λ c. (own t c).1)
     (λ c. some t c.before)
     (λ c. omega (arith, own t c.before))
     (again t)
-    (λ c κs. operand-fits t c.before)
+    (λ c κs. operand-fits t c.before.before)
     (λ c. search rules)
     (λ c. search rules)
     (returns-2 t)
@@ -200,11 +200,11 @@ read_value_spec = close μ λ t. lts.spec (called t)
     (λ c. search rules)
     (λ c. omega (arith, low t c, own t (wide t c)))
     (again-4 t)
-    (λ c. let w = c.before.before.before.before.before in omega (arith, (at t w).loop.invariant.room, own t w, (fits t (at t w)).few))
+    (λ c. let w = c.before.before.before.before.before in omega (arith, (at t w).loop-count.invariant.room, own t w, (fits t (at t w)).few))
     (λ c. omega (arith, own t c.before.before.before.before.before))
     (again-5 t)
     (λ c. some t c.before.before.before.before.before)
     (λ c. omega (arith, own t c.before.before.before.before.before))
     (again-6 t)
-    (λ c. let a = c.before in omega (arith, a.loop.invariant.low, (fits t a).few))
+    (λ c. let a = c.before in omega (arith, a.loop-count.invariant.low, (fits t a).few))
     (returns-4 t)

@@ -158,4 +158,4 @@ push_oracle_spec =
     (λ c κs. let k = c.before.before.before in row_fits _ _ _ (p₂ (q₃ (r₄ k))).before.before.two_opcodes-closing.ensures (front-room 2 (four k) (omega (arith, count₄ k, (s₄ k).requires.1))))
     (λ c. let e = c.before.before in omega (arith, count₄ (k₅ e), (ended e).long))
     (λ c. let e = c.before.before in front_length (five e) (omega (arith, count₄ (k₅ e), (ended e).long, (s₄ (k₅ e)).requires.1)))
-    (λ c. let e = c.before.before in rw (← (p₂ (q₃ (r₄ (k₅ e)))).before.before.before.before.before.read_le64.ensures.value, ← oracle-bytes (key (k₅ e)) (time (q₃ (r₄ (k₅ e))))) (five e)))
+    (λ c. let e = c.before.before in rw (← (p₂ (q₃ (r₄ (k₅ e)))).before.before.before.before.before.read_le64-time.ensures.value, ← oracle-bytes (key (k₅ e)) (time (q₃ (r₄ (k₅ e))))) (five e)))

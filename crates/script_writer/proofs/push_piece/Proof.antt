@@ -39,10 +39,10 @@ push_piece_spec =
     (λ c κs. rw c.in-Constant.is at c.requires.0.inside)
     (λ c κs. rw c.in-Constant.is at c.requires.1)
     (λ c. search rules)
-    (λ c κs. let s = c.before.before.before.before in (rw c.in-Oracle.is at s.requires.0.inside, rw c.in-Oracle.is at s.requires.1))
+    (λ c κs. let s = c.before.before in (rw c.in-Oracle.is at s.requires.0.inside, rw c.in-Oracle.is at s.requires.1))
     (λ c. search rules)
-    (λ c κs. let s = c.before.before.before.before in (rw c.in-OracleW.is at s.requires.0.inside, rw c.in-OracleW.is at s.requires.1))
-    (λ c. front_length (returns c) (within c.before.before.before.before.before.before.before _ (returns c).long))
+    (λ c κs. let s = c.before.before in (rw c.in-OracleW.is at s.requires.0.inside, rw c.in-OracleW.is at s.requires.1))
+    (λ c. front_length (returns c) (within c.before.before.before.before.before.before.before.before _ (returns c).long))
     returns
     (λ c. front_length (returns-2 c) (within c.before.before.before.before.before.before.before.before _ (returns-2 c).long))
     returns-2
