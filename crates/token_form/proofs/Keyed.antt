@@ -35,7 +35,7 @@ keyed Command.Unknown = record { places = λ n ks. refl; keys = λ n ks. refl }
 keyed Command.IdxConst = record { places = λ n ks. refl; keys = λ n ks. refl }
 keyed Command.CurrIdx = record { places = λ n ks. refl; keys = λ n ks. refl }
 keyed (Command.Index o) =
-    elim o [
+    elim o as (λ o. Keyed (Command.Index o)) [
       | IdxOp.Add ↦ record { places = λ n ks. refl; keys = λ n ks. refl }
       | IdxOp.Sub ↦ record { places = λ n ks. refl; keys = λ n ks. refl }
       | IdxOp.Mul ↦ record { places = λ n ks. refl; keys = λ n ks. refl }
@@ -44,14 +44,14 @@ keyed (Command.Index o) =
 keyed Command.Const = record { places = λ n ks. refl; keys = λ n ks. refl }
 keyed Command.CurrInputIdx = record { places = λ n ks. refl; keys = λ n ks. refl }
 keyed (Command.Lookup l) =
-    elim l [
+    elim l as (λ l. Keyed (Command.Lookup l)) [
       | AmountList.Input ↦ record { places = λ n ks. refl; keys = λ n ks. refl }
       | AmountList.Output ↦ record { places = λ n ks. refl; keys = λ n ks. refl }
       | AmountList.InputIssue ↦ record { places = λ n ks. refl; keys = λ n ks. refl }
       | AmountList.InputReIssue ↦ record { places = λ n ks. refl; keys = λ n ks. refl }
     ]
 keyed (Command.Binary o) =
-    elim o [
+    elim o as (λ o. Keyed (Command.Binary o)) [
       | BinOp.Add ↦ record { places = λ n ks. refl; keys = λ n ks. refl }
       | BinOp.Sub ↦ record { places = λ n ks. refl; keys = λ n ks. refl }
       | BinOp.Mul ↦ record { places = λ n ks. refl; keys = λ n ks. refl }
@@ -62,14 +62,14 @@ keyed (Command.Binary o) =
       | BinOp.Xor ↦ record { places = λ n ks. refl; keys = λ n ks. refl }
     ]
 keyed (Command.Unary o) =
-    elim o [
+    elim o as (λ o. Keyed (Command.Unary o)) [
       | UnOp.Invert ↦ record { places = λ n ks. refl; keys = λ n ks. refl }
       | UnOp.Negate ↦ record { places = λ n ks. refl; keys = λ n ks. refl }
     ]
 keyed Command.PriceOracle1 = record { places = λ n ks. refl; keys = λ n ks. refl }
 keyed Command.PriceOracle1W = record { places = λ n ks. refl; keys = λ n ks. refl }
 keyed (Command.Compare o) =
-    elim o [
+    elim o as (λ o. Keyed (Command.Compare o)) [
       | CmpOp.Eq ↦ record { places = λ n ks. refl; keys = λ n ks. refl }
       | CmpOp.Lt ↦ record { places = λ n ks. refl; keys = λ n ks. refl }
       | CmpOp.Leq ↦ record { places = λ n ks. refl; keys = λ n ks. refl }

@@ -37,7 +37,7 @@ row Command.Unknown k = absurd (let z : ◌≡◌ {A = ℕ} 0 1 = cc in omega ar
 row Command.IdxConst k = (refl, λ n. refl, λ n. refl, λ n. refl)
 row Command.CurrIdx k = (refl, λ n. refl, λ n. refl, λ n. refl)
 row (Command.Index o) k =
-    elim o [
+    elim o as (λ o. Row (Command.Index o)) [
       | IdxOp.Add ↦ (refl, λ n. refl, λ n. refl, λ n. refl)
       | IdxOp.Sub ↦ (refl, λ n. refl, λ n. refl, λ n. refl)
       | IdxOp.Mul ↦ (refl, λ n. refl, λ n. refl, λ n. refl)
@@ -46,14 +46,14 @@ row (Command.Index o) k =
 row Command.Const k = (refl, λ n. refl, λ n. refl, λ n. refl)
 row Command.CurrInputIdx k = (refl, λ n. refl, λ n. refl, λ n. refl)
 row (Command.Lookup l) k =
-    elim l [
+    elim l as (λ l. Row (Command.Lookup l)) [
       | AmountList.Input ↦ (refl, λ n. refl, λ n. refl, λ n. refl)
       | AmountList.Output ↦ (refl, λ n. refl, λ n. refl, λ n. refl)
       | AmountList.InputIssue ↦ (refl, λ n. refl, λ n. refl, λ n. refl)
       | AmountList.InputReIssue ↦ (refl, λ n. refl, λ n. refl, λ n. refl)
     ]
 row (Command.Binary o) k =
-    elim o [
+    elim o as (λ o. Row (Command.Binary o)) [
       | BinOp.Add ↦ (refl, λ n. refl, λ n. refl, λ n. refl)
       | BinOp.Sub ↦ (refl, λ n. refl, λ n. refl, λ n. refl)
       | BinOp.Mul ↦ (refl, λ n. refl, λ n. refl, λ n. refl)
@@ -64,14 +64,14 @@ row (Command.Binary o) k =
       | BinOp.Xor ↦ (refl, λ n. refl, λ n. refl, λ n. refl)
     ]
 row (Command.Unary o) k =
-    elim o [
+    elim o as (λ o. Row (Command.Unary o)) [
       | UnOp.Invert ↦ (refl, λ n. refl, λ n. refl, λ n. refl)
       | UnOp.Negate ↦ (refl, λ n. refl, λ n. refl, λ n. refl)
     ]
 row Command.PriceOracle1 k = (refl, λ n. refl, λ n. refl, λ n. refl)
 row Command.PriceOracle1W k = (refl, λ n. refl, λ n. refl, λ n. refl)
 row (Command.Compare o) k =
-    elim o [
+    elim o as (λ o. Row (Command.Compare o)) [
       | CmpOp.Eq ↦ (refl, λ n. refl, λ n. refl, λ n. refl)
       | CmpOp.Lt ↦ (refl, λ n. refl, λ n. refl, λ n. refl)
       | CmpOp.Leq ↦ (refl, λ n. refl, λ n. refl, λ n. refl)

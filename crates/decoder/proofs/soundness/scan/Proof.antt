@@ -48,12 +48,12 @@ module _ (f : tie.After-fields_sound invariant-loop-i decreases-loop-i) where
 returns : tie.Need-returns-then-not-fields_sound invariant-loop-i decreases-loop-i
 returns c =
     let a = turn c.before in
-    ap scanned (sym (unsound-here (records a) a.loop.i _ (inside c.before) (told c.before ∙ not-true _ c.if-not-fields_sound.true-raw)) ∙ a.loop.invariant.1)
+    ap scanned (sym (unsound-here (records a) a.loop-i.i _ (inside c.before) (told c.before ∙ not-true _ c.if-not-fields_sound.true-raw)) ∙ a.loop-i.invariant.1)
 
 loop-again : tie.Need-loop-i-preserved invariant-loop-i decreases-loop-i
 loop-again c =
     let a = turn c.before in
-    (omega arith, sym (unsound-next (records a) a.loop.i _ (inside c.before) (told c.before ∙ not-false _ c.if-not-fields_sound.false-raw)) ∙ a.loop.invariant.1)
+    (omega arith, sym (unsound-next (records a) a.loop-i.i _ (inside c.before) (told c.before ∙ not-false _ c.if-not-fields_sound.false-raw)) ∙ a.loop-i.invariant.1)
 
 returns-2 : tie.Need-returns-then-i-kinds invariant-loop-i decreases-loop-i
 returns-2 c =
