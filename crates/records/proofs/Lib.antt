@@ -1,5 +1,4 @@
 -- Laws of what the specs of this crate define, one file a subject.
 pub mod Onto
 pub mod Stored
-mod Walk
 pub mod Alike
