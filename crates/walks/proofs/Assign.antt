@@ -10,12 +10,12 @@ use mathlib.Core.List.{List, [], ◌∷◌}
 use mathlib.Core.Option.{Option, none, some, none-ne-some, some-injective}
 use Prim.Native.Nat.{ℕ, zero, suc, ◌+◌, ◌^◌}
 use seplogic.Ra.Ura.{Ura}
-use seplogic.Ra.TreeShare.{full_share}
+use base.Fraction.{full_share}
 use lib.Dec.{T, ltb, eqb, eqb→eq}
 use mir.Fields.{get_v}
 use mir.Syntax.{Sym, w8, Ty, ty_int, ty_struct, ty_enum, Tys, tcons, Tyss, Step as PStep, deref, field, variant, place, Opd as Operand, copy, int, int_neg, int_big}
-use mir.Syntax.{float, opd_true, opd_false, opd_unit, ptr_const, Rv as RValue, rv_opd, op1, op2, addr_of, aggregate, repeat, Body, seq, assign}
-use mir.Val.{Val, vunit, vbool, vint, vfloat, vptr, vstruct, of_list, as_ptr, bits, has_ty}
+use mir.Syntax.{float, opd_true, opd_false, opd_unit, ptr_const, size_of, align_of, num_of, fn_addr, vtable, Rv as RValue, rv_opd, op1, op2, addr_of, aggregate, repeat, repeat_p, select, Body, seq, assign}
+use mir.Val.{Val, vunit, vbool, vint, vfloat, vptr, vcode, vstruct, of_list, as_ptr, bits, has_ty}
 use base.Logic.{SProp, ent, never}
 use base.Fml.{Share}
 use prog.Memory.{field_at, with_tag, variant_at}
@@ -122,6 +122,7 @@ module _ {M : Type 1} {𝓤 : Ura M} (𝓛 : Logic 𝓤) (K : Type 0) (t : K) (E
   ends_addr τ b o (vbool c) (deref σ ∷ []) r = record { go = tt }
   ends_addr τ b o (vint w n) (deref σ ∷ []) r = record { go = tt }
   ends_addr τ b o (vfloat f x) (deref σ ∷ []) r = record { go = tt }
+  ends_addr τ b o (vcode c) (deref σ ∷ []) r = record { go = tt }
   ends_addr τ b o (vptr c d) (deref σ ∷ []) r = record { go = λ Kt h. r.go (λ v. as_ptr (never 𝓤) v (λ b' o'. Kt (vptr b' o'))) h }
   ends_addr τ b o (vstruct vs) (deref σ ∷ []) r = record { go = tt }
   ends_addr τ b o u (deref σ ∷ s ∷ st) r = record { go = tt }
@@ -159,6 +160,11 @@ module _ {M : Type 1} {𝓤 : Ura M} {𝓛 : Logic 𝓤} {K : Type 0} {E : Env �
   opd_at t opd_false v e = subst (λ (u : Val). Opd K 𝓛 (‵ (Frame E hs) ∷ Δ) E opd_false u) (some-injective (vbool false) v e) (false_lit t)
   opd_at t opd_unit v e = subst (λ (u : Val). Opd K 𝓛 (‵ (Frame E hs) ∷ Δ) E opd_unit u) (some-injective vunit v e) (unit_lit t)
   opd_at t (ptr_const n) v e = absurd (none-ne-some v e)
+  opd_at t (size_of τ) v e = absurd (none-ne-some v e)
+  opd_at t (align_of τ) v e = absurd (none-ne-some v e)
+  opd_at t (num_of w τ) v e = absurd (none-ne-some v e)
+  opd_at t (fn_addr c σ) v e = absurd (none-ne-some v e)
+  opd_at t (vtable τ ss) v e = absurd (none-ne-some v e)
 
   opds_at : K → (xs : List Operand) (vs : List Val) → opds_of E hs xs ≡ some vs → Opds K 𝓛 (‵ (Frame E hs) ∷ Δ) E xs vs
   opds_at t [] vs e = subst (λ (us : List Val). Opds K 𝓛 (‵ (Frame E hs) ∷ Δ) E [] us) (some-injective [] vs e) (no_more t)
@@ -185,6 +191,8 @@ module _ {M : Type 1} {𝓤 : Ura M} {𝓛 : Logic 𝓤} {K : Type 0} {E : Env �
       subst (λ (u : Val). Rv K 𝓛 (‵ (Frame E hs) ∷ Δ) E (aggregate xs) u) (some-injective (vstruct (of_list a.0)) v a.2)
       (agg t (opds_at t xs a.0 a.1))
   rv_at t (repeat x n) v e = absurd (none-ne-some v e)
+  rv_at t (repeat_p x n) v e = absurd (none-ne-some v e)
+  rv_at t (select x y z) v e = absurd (none-ne-some v e)
 
   pub opd : K → {x : Operand} {v : Val} → opd_of E hs x ≡ some v → Opd K 𝓛 (‵ (Frame E hs) ∷ Δ) E x v
   opd t {x} {v} e = opd_at t x v e

@@ -1,6 +1,7 @@
 -- A call in a walk, from the operands to the result in its local, as one rule.
 --     Knows C f Q c    a callee: its entry in the table meets the contract that the clauses c make, and the table is monotone under a frame
---     shown 𝓛 x        that a `requires` or an `ensures` which states a fact holds, by the fact x
+--     shown 𝓛 x        that a `requires` or an `ensures` which states a fact holds, by the fact x.        all_shown 𝓛 (shown 𝓛 x) (shown 𝓛 y)      of two clauses
+--     all_said 𝓛 refl  that two clauses state one fact: the pair of theirs.        all_said 𝓛 (all_said 𝓛 refl)      of three.        none_said 𝓛      of none
 --     calls known π a ss Φ refl ok (λ r w. refl) D (λ r w is φ. …)
 --         the callee is handed the tokens at π, for its lifetimes in order, and from the sources ss what its parameters own at the values a.
 --         ok is its bounds, its ghost value, and that its `requires` holds: `(tt, tt, shown 𝓛 x)`, or `(tt, tt, id⊢ 𝓤 _)` where it has none.
@@ -18,15 +19,15 @@ use seplogic.Ra.Ura.{Ura}
 use lib.Dec.{T}
 use lib.ListN.{get_or}
 use mir.Facts.{and_yes, yes_and}
-use mir.Syntax.{Name, Ty, place, Opd as Operand, Body, seq, call}
+use mir.Syntax.{Callee, Ty, place, Opd as Operand, Body, seq, call}
 use mir.Val.{Val, has_ty}
-use base.Logic.{SProp, ent, sep, emp, id⊢, via, mono_r}
+use base.Logic.{SProp, ent, sep, emp, id⊢, via, mono_r, mono∗, fst∗, snd∗, emp∗, both⊢}
 use base.Fml.{Fml}
 use prog.Wp.{Env, Calls, Loops, next, no_local}
 use types.Logic.{Logic, sem}
 use sound.WpLaws.{FmC}
 use contract.Lifetimes.{Lfts, Shares, AllOutlive, toks}
-use contract.Monad.{fact, fact_i}
+use contract.Monad.{fact, fact_i, fact_use, top}
 use types.Kit.{Item, ‵, raw, ◌⊛◌, some as ∃', later, ⋆, pop, push, Post, post, Goal, Soaks, prop, runs, lands, settles, Seq, Step, step, ◌$◌, ◌∵◌, ! }
 use types.Kit.{qed, move, use0, use1, use2, split, join, pick, rewrite, await, done}
 use types.Run.{Opds, Writes, from, stop, land, land_last}
@@ -41,19 +42,37 @@ use denote.Triple.End.{Fins, lasts_of}
 use denote.Triple.Entry.{Args}
 use denote.Triple.Spec.{Meets, triple_of}
 use Rattle.walks.proofs.Data.{Data, fits, is_val}
-use Rattle.walks.proofs.Entries.{Source, given, nest, hads, gones, lefts, fairs, all_fair, restore, supplied, restored}
+use Rattle.walks.proofs.Entries.{Source, given, nest, hads, gones, lefts, fairs, all_fair, founds, stateds, all_found, restore, supplied, restored}
 use Rattle.walks.proofs.Frame.{Held, holds, Frame, owned, put, spot, into}
 use Rattle.walks.proofs.Assign.{opds}
 use Rattle.walks.proofs.Value.{opds_of}
 use Rattle.walks.proofs.Params.{lfts_of, shares_of, tokens, singles, owns_each, owns_each_lem, lasts_each, lasts_each_lem, Short, long, short, long_short}
 
 -- ---- the callee
-pub record Knows {M : Type 1} {𝓤 : Ura M} (𝓛 : Logic 𝓤) (C : Calls 𝓤 𝓛.H) (f : Name) (Q : Ended) (c : Clauses 𝓤 Q) : Type 2 where
+pub record Knows {M : Type 1} {𝓤 : Ura M} (𝓛 : Logic 𝓤) (C : Calls 𝓤 𝓛.H) (f : Callee) (Q : Ended) (c : Clauses 𝓤 Q) : Type 2 where
   pub frames : FmC 𝓤 𝓛.H 𝓛.laws C
   pub meets : Meets 𝓛 Q.signature (C f) (closing 𝓛 Q c)
 
 pub shown : {M : Type 1} {𝓤 : Ura M} (𝓛 : Logic 𝓤) {φ : Type 0} → φ → ent 𝓤 (emp 𝓤) (fact 𝓤 φ)
 shown {𝓤 = 𝓤} 𝓛 {φ} x = fact_i 𝓤 φ (emp 𝓤) x
+
+-- of several clauses
+module _ {M : Type 1} {𝓤 : Ura M} (𝓛 : Logic 𝓤) where
+  pub all_shown : {P Q : SProp 𝓤} → ent 𝓤 (emp 𝓤) P → ent 𝓤 (emp 𝓤) Q → ent 𝓤 (emp 𝓤) (sep 𝓤 P Q)
+  all_shown {P} {Q} p q = via 𝓤 (sep 𝓤 (emp 𝓤) (emp 𝓤)) (emp∗ 𝓤 (emp 𝓤)) (mono∗ 𝓤 p q)
+
+  two_facts : (φ ψ : Type 0) → sep 𝓤 (fact 𝓤 φ) (fact 𝓤 ψ) ≡ fact 𝓤 (φ × ψ)
+  two_facts φ ψ =
+      let P : SProp 𝓤 = fact 𝓤 φ in
+      let Q : SProp 𝓤 = fact 𝓤 ψ in
+      both⊢ 𝓤 (fact_use 𝓤 φ (fst∗ 𝓤 P Q) (λ x. fact_use 𝓤 ψ (snd∗ 𝓤 P Q) (λ y. fact_i 𝓤 (φ × ψ) (sep 𝓤 P Q) (x, y))))
+      (fact_use 𝓤 (φ × ψ) (id⊢ 𝓤 (fact 𝓤 (φ × ψ))) (λ p. via 𝓤 (emp 𝓤) (top 𝓤 (fact 𝓤 (φ × ψ))) (all_shown (shown 𝓛 p.0) (shown 𝓛 p.1))))
+
+  pub all_said : {φ ψ : Type 0} {P : SProp 𝓤} → P ≡ fact 𝓤 ψ → sep 𝓤 (fact 𝓤 φ) P ≡ fact 𝓤 (φ × ψ)
+  all_said {φ} {ψ} e = ap (sep 𝓤 (fact 𝓤 φ)) e ∙ two_facts φ ψ
+
+  pub none_said : emp 𝓤 ≡ fact 𝓤 (Unit {0})
+  none_said = both⊢ 𝓤 (shown 𝓛 tt) (top 𝓤 (fact 𝓤 (Unit {0})))
 
 module _ {M : Type 1} {𝓤 : Ura M} (𝓛 : Logic 𝓤) where
   open 𝓛 use {H, A}
@@ -91,16 +110,16 @@ module _ {M : Type 1} {𝓤 : Ura M} (𝓛 : Logic 𝓤) where
       values (some vs) = vs
 
       -- what the `refl` of a call shows: the tokens, what the parameters own, the operands, the local's type,
-      -- that what is copied can be had twice, and that the local is not lent
+      -- that what is copied can be had twice, that the local is not lent, and that a law by which a copy is taken is of what stands there
       abbrev Wanted : Type 1
-      Wanted = List Fml × List Fml × Option (List Val) × Ty × Bool
+      Wanted = List Fml × List Fml × Option (List Val) × Ty × Bool × List Fml
 
       module _ (E : Env 𝓤 H) (hs : List Held) (xs : List Operand) (d : ℕ) where
         abbrev vss : Valss (types_at S.params κs_at)
         vss = singles (types_at S.params κs_at) (values (opds_of E hs xs))
 
         abbrev pub has : Wanted
-        has = (hads 𝓛 (map given π) Δ, hads 𝓛 ss after-tokens, opds_of E hs xs, (get_or E d (no_local 𝓤 H)).0, fairs 𝓛 ss after-tokens && owned E hs d)
+        has = (hads 𝓛 (map given π) Δ, hads 𝓛 ss after-tokens, opds_of E hs xs, (get_or E d (no_local 𝓤 H)).0, fairs 𝓛 ss after-tokens && owned E hs d, founds 𝓛 ss after-tokens)
 
         abbrev pub wants : Wanted
         wants = (
@@ -109,6 +128,7 @@ module _ {M : Type 1} {𝓤 : Ura M} (𝓛 : Logic 𝓤) where
           some (flat (types_at S.params κs_at) vss),
           lone (type_at S.result κs_at).mir,
           true,
+          stateds 𝓛 ss,
         )
 
 module _ {M : Type 1} {𝓤 : Ura M} (𝓛 : Logic 𝓤) (K : Type 0) (t : K) (E : Env 𝓤 𝓛.H) (hs : List Held) (Δ : List (Item 𝓤))
@@ -149,12 +169,12 @@ module _ {M : Type 1} {𝓤 : Ura M} (𝓛 : Logic 𝓤) (K : Type 0) (t : K) (E
 
   toks_out : ent 𝓤 (⋆ 𝓛 Δ) (sep 𝓤 Toks (⋆ 𝓛 Δ₁))
   toks_out = subst (λ (P : SProp 𝓤). ent 𝓤 (⋆ 𝓛 Δ) (sep 𝓤 P (⋆ 𝓛 Δ₁)))
-      (ap (λ p. sem 𝓛 (nest p.0)) e ∙ tokens_are 𝓛 Q.signature.lifetimes κs qs) (supplied 𝓛 (map given π) Δ (all_fair 𝓛 π Δ))
+      (ap (λ p. sem 𝓛 (nest p.0)) e ∙ tokens_are 𝓛 Q.signature.lifetimes κs qs) (supplied 𝓛 (map given π) Δ (all_fair 𝓛 π Δ) (all_found 𝓛 π Δ))
 
   owns_out : ent 𝓤 (⋆ 𝓛 Δ₁) (sep 𝓤 (sem 𝓛 Owns) (⋆ 𝓛 Δ₂))
   owns_out = subst (λ (F : Fml). ent 𝓤 (⋆ 𝓛 Δ₁) (sep 𝓤 (sem 𝓛 F) (⋆ 𝓛 Δ₂)))
       (ap (λ p. nest p.1) e ∙ owns_each_lem (types_at Q.signature.params κs) a us)
-      (supplied 𝓛 ss Δ₁ (and_yes (fairs 𝓛 ss Δ₁) (owned E hs d) (subst T (sym (ap (λ p. p.4) e)) tt)).0)
+      (supplied 𝓛 ss Δ₁ (and_yes (fairs 𝓛 ss Δ₁) (owned E hs d) (subst T (sym (ap (λ p. p.4) e)) tt)).0 (ap (λ p. p.5) e))
 
   handed : ent 𝓤 (emp 𝓤) ((c κs a).requires g) → ent 𝓤 (⋆ 𝓛 (‵ (Frame E hs) ∷ Δ)) (⋆ 𝓛 (raw Pre ∷ ‵ (Frame E hs) ∷ Δ₂))
   handed may =
@@ -201,16 +221,16 @@ module _ {M : Type 1} {𝓤 : Ura M} (𝓛 : Logic 𝓤) (K : Type 0) (t : K) (E
         → Seq K 𝓛 (‵ (Frame E hs) ∷ Returned 𝓛 Q π Δ a ss w) G)
         → Seq K 𝓛 (raw ((triple_of 𝓛 Q.signature (closing 𝓛 Q c)).post y v) ∷ ‵ (Frame E hs) ∷ Δ₂) G
     answered v G z k =
-        use1 𝓛 (later (∃' (λ (r : R.Denot). (raw Toks ⊛ ‵ (R.own r (v ∷ []))) ⊛ ∃'
+        use1 𝓛 (later (∃' (λ (r : R.Denot). (raw Toks ⊛ ‵ (R.own_val r (v ∷ []))) ⊛ ∃'
         (λ (ws : Fins κs Q.signature.params Q.kept a). ‵ (LastsAt ws) ⊛ raw ((c κs a).ensures g r (at_exit Q κs a ws)))))) (id⊢ 𝓤 _) $ await t z $
         pick t (λ r.
         split t $ move t (1 ∷ []) $ pick t (λ ws. split t $
         subst (λ (ws' : Fins κs Q.signature.params Q.kept a). Seq K 𝓛 (‵ (LastsAt ws') ∷ raw ((c κs a).ensures g r (at_exit Q κs a ws')) ∷
-        (raw Toks ⊛ ‵ (R.own r (v ∷ []))) ∷ ‵ (Frame E hs) ∷ Δ₂) G)
+        (raw Toks ⊛ ‵ (R.own_val r (v ∷ []))) ∷ ‵ (Frame E hs) ∷ Δ₂) G)
         (long_short κs Q.signature.params Q.kept a ws) (told r (short κs Q.signature.params Q.kept a ws))))
       where
         told : (r : R.Denot) (w : Ws) → Seq K 𝓛 (‵ (LastsAt (full w)) ∷ raw ((c κs a).ensures g r (at_exit Q κs a (full w))) ∷
-            (raw Toks ⊛ ‵ (R.own r (v ∷ []))) ∷ ‵ (Frame E hs) ∷ Δ₂) G
+            (raw Toks ⊛ ‵ (R.own_val r (v ∷ []))) ∷ ‵ (Frame E hs) ∷ Δ₂) G
         told r w =
             move t (1 ∷ []) $ rewrite t 0 (λ (P : SProp 𝓤). raw P) (says r w) refl $ heard t (Φ r w) (λ φ. move t (1 ∷ []) $ split t $ move t (1 ∷ []) $
             facts t R (Is R) (shows 𝓛 R) r (v ∷ [])
@@ -259,7 +279,7 @@ stores {𝓤 = 𝓤} {𝓛 = 𝓛} {E = E} {hs = hs} t d {R} D r v is τ-is b ow
     into t d (yes_and (owned E hs d) (has_ty (spot 𝓛 E d).0 v) free (subst (λ (τ : Ty). T (has_ty τ v)) (sym τ-is) ok.0)) ok.1
 
 module _ {M : Type 1} {𝓤 : Ura M} {𝓛 : Logic 𝓤} {K : Type 0} {E : Env 𝓤 𝓛.H} {hs : List Held} {Δ : List (Item 𝓤)} {C : Calls 𝓤 𝓛.H}
-    {Λ : Loops 𝓤 𝓛.H} {q : Post 𝓤 𝓛.H} {f : Name} {Q : Ended} {c : Clauses 𝓤 Q} {xs : List Operand} {d : ℕ} where
+    {Λ : Loops 𝓤 𝓛.H} {q : Post 𝓤 𝓛.H} {f : Callee} {Q : Ended} {c : Clauses 𝓤 Q} {xs : List Operand} {d : ℕ} where
   open 𝓛 use {H}
 
   pub calls : K → {rest : Body} → Knows 𝓛 C f Q c → (π : List ℕ) (a : Args Q.signature (κs_at 𝓛 Q π Δ)) (ss : List Source)

@@ -4,7 +4,7 @@
 -- Both are over the tables of the environment that the function is defined in.
 use mathlib.Core.Path.{◌≡◌}
 use seplogic.Ra.Ura.{Ura}
-use mir.Syntax.{Name, Fn}
+use mir.Syntax.{Callee, Fn}
 use prog.Model.{Model}
 use prog.Routine.{Routine, Env}
 use prog.Wp.{WpFn, Closed}
@@ -19,7 +19,7 @@ use Rattle.walks.proofs.Call.{Knows}
 module _ {M : Type 1} {𝓤 : Ura M} (𝓛 : Logic 𝓤) (𝓜 : Model 𝓤 𝓛.H) (𝓡 : Running 𝓤 𝓛.H 𝓜) (γ : Env) (Q : Ended) (c : Clauses 𝓤 Q) where
   open 𝓛 use {H}
 
-  pub cites : (k : Name) (r : Routine) → γ k ≡ r → Meets 𝓛 Q.signature (𝓡.run r) (closing 𝓛 Q c)
+  pub cites : (k : Callee) (r : Routine) → γ k ≡ r → Meets 𝓛 Q.signature (𝓡.run r) (closing 𝓛 Q c)
       → Knows 𝓛 (tables_of 𝓤 H 𝓜 (tables 𝓤 H 𝓜 𝓡 γ)).C k Q c
   unfolding tables_of
   cites k r e m = record {
@@ -27,7 +27,7 @@ module _ {M : Type 1} {𝓤 : Ura M} (𝓛 : Logic 𝓤) (𝓜 : Model 𝓤 𝓛
     meets = cited 𝓤 H (triple_of 𝓛 Q.signature (closing 𝓛 Q c)) 𝓜 𝓡 γ k r e m;
   }
 
-  pub concludes : (k : Name) (f : Fn) → Closed 𝓤 H (tables 𝓤 H 𝓜 𝓡 γ).C (tables 𝓤 H 𝓜 𝓡 γ).Λ k f
+  pub concludes : (k : Callee) (f : Fn) → Closed 𝓤 H (tables 𝓤 H 𝓜 𝓡 γ).C (tables 𝓤 H 𝓜 𝓡 γ).Λ k f
       → Meets 𝓛 Q.signature (WpFn 𝓤 H (tables_of 𝓤 H 𝓜 (tables 𝓤 H 𝓜 𝓡 γ)).C (tables_of 𝓤 H 𝓜 (tables 𝓤 H 𝓜 𝓡 γ)).Λ f) (closing 𝓛 Q c)
       → Meets 𝓛 Q.signature (𝓡.run (γ k)) (closing 𝓛 Q c)
   unfolding tables_of

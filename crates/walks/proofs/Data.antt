@@ -31,7 +31,7 @@ x & y = (x, y)
 pub record Data (R : RattleType) : Type 2 where
   pub val : R.Denot → Val
   pub tells : Tells R (Is R) (λ x. val x ∷ [])
-  pub pure : (x : R.Denot) (vs : List Val) → Pure (R.own x vs)
+  pub pure : (x : R.Denot) (vs : List Val) → Pure (R.own_val x vs)
   pub lawful : {M : Type 1} {𝓤 : Ura M} (𝓛 : Logic 𝓤) → Lawful 𝓛 R
 
 abbrev pub number : (w : Width) → Data (UInt w)

@@ -4,7 +4,7 @@
 use Prim.Native.Nat.{ℕ}
 use mathlib.Core.List.{[], ◌∷◌, List}
 use seplogic.Ra.Ura.{Ura}
-use seplogic.Ra.TreeShare.{full_share}
+use base.Fraction.{full_share}
 use mir.Syntax.{Ty, Lifetime}
 use mir.Val.{Val}
 use base.Logic.{ent, sep, ex, guard}
@@ -37,7 +37,7 @@ module _ (T : Declared) (L : LL.Laws T) (pl : Plains (fields T)) {M : Type 1} {�
       qed 𝓛 (‵ (fat full_share τ l 0 (LL.val T L h)) ∷ []) ∵ use1 𝓛 (‵ (cell_at full_share R.mir (LL.vals T L h) l 0))
       (𝓛.laws.at_raw full_share τ l 0 (LL.val T L h)) $
       owned ! R (Is R) (LL.makes T pl 𝓛) h _ is $ move ! (1 ∷ 0 ∷ []) $ fjoin ! $
-      fpack ! (List Val) (λ us. fsep (cell_at full_share R.mir us l 0) (R.own h us)) (LL.vals T L h) $ done !
+      fpack ! (List Val) (λ us. fsep (cell_at full_share R.mir us l 0) (R.own_val h us)) (LL.vals T L h) $ done !
 
   lie_out : (h : T.D) → ent 𝓤 (sem 𝓛 (part_at R full_share h l 0)) (guard 𝓤 (Is R h (LL.vals T L h)) (H.at full_share τ l 0 (LL.val T L h)))
   unfolding part_of

@@ -8,22 +8,23 @@
 --     lends_local F j h is refl refl (λ loan. …)       local j, a struct of plain data that holds h; `lent_local loan b h` where b is its block.
 --                                               The reference stands at n, behind it its token, then what is kept
 --     local_back F loan j n h _ refl refl refl (λ is. …)      local j holds h
---     gives_up R p x refl $ …                   the `&mut R` at p is not used any more: what is left says its last value
+--     gives_up R p x refl $ …                   the `&mut R` at p is not used any more: what is left says its last value, and hands the borrow back
+-- What a call leaves of a reference that was lent is `Walk.antt`'s `ref_left` or `slice_left`: what says the last value, and the borrow, whose lifetime then ends.
 -- A `refl` shows what stands at the positions, and a `_` is filled in with the entries that are left.
 use mathlib.Core.Path.{◌≡◌, refl, sym, ap}
 use mathlib.Core.List.{List, [], ◌∷◌, ◌++◌, map}
 use mathlib.Core.Option.{some}
 use Prim.Native.Nat.{ℕ, zero, suc}
 use seplogic.Ra.Ura.{Ura}
-use seplogic.Ra.TreeShare.{full_share}
+use base.Fraction.{full_share}
 use lib.ListN.{length, take}
 use mir.Syntax.{Ty, erased, Body as Code}
 use mir.Val.{Val, vptr}
-use base.Fml.{Lft, GName, Share, Fml, fsep, feq, flft, flent, fat, fres}
+use base.Fml.{Lft, GName, Share, Fml, flft, flent, fat, fres}
 use prog.Wp.{Env, Calls, Loops}
 use types.Logic.{Logic}
 use types.Kit.{Item, ‵, ◌⊛◌, some as ∃', later, given as given', put, Post, runs, Seq, Step, step, ◌$◌, move, drop, use1, use2, use3, split, pick, learn}
-use types.Kit.{fsplit, fsplit3, feq_l, rewrite, await}
+use types.Kit.{fsplit, fsplit3, fjoin, feq_l, rewrite, await}
 use types.SemTy.{Body}
 use types.Tokens.{lft_new, lft_end}
 use denote.RattleType.{RattleType}
@@ -31,7 +32,7 @@ use denote.Laws.{Is, shows}
 use denote.Lend as lend
 use denote.Memory.{mem, lone}
 use denote.Ref.{MutBor, MutRef, at_last, mut_vals}
-use denote.Slice.{MutSlice, Room, slice_val, finally}
+use denote.Slice.{MutSlice, Room, slice_val}
 use denote.Steps.{peeks}
 use denote.Struct.Declared.{row}
 use denote.Struct.Laws as LL
@@ -40,7 +41,7 @@ use Rattle.walks.proofs.Data.{Fielded}
 use Rattle.walks.proofs.Entries.{given, hads, lefts, takes, lays, ends, Items, listed, tidies}
 use Rattle.walks.proofs.Frame.{Held, holds, lent, Frame, put as put', held_at, slot_at, lent_out, lent_in, spot}
 use Rattle.walks.proofs.Lent as local
-use Rattle.walks.proofs.Walk.{count}
+use Rattle.walks.proofs.Walk.{count, ref_left, slice_left}
 
 -- ---- a loan: the lifetime that is made for it, its name, and of a slice what the lender knows
 pub record RefLoan (R : RattleType) (κ : Lft) (q : Share) (x : MutBor R.Denot) : Type 0 where
@@ -100,20 +101,21 @@ module _ {M : Type 1} {𝓤 : Ura M} {𝓛 : Logic 𝓤} {K : Type 0} {i : Item 
       lays k (suc (suc (suc (suc p)))) $ ends k $ move k (1 ∷ []) $ drop k $ lays k (suc t) $ go (record { lft = α; named = δ })))
 
   pub ref_back : K → {R : RattleType} {κ : Lft} {q : Share} {x : MutBor R.Denot} (l : RefLoan R κ q x) (p t n : ℕ) (y : R.Denot) (is : Items 𝓤 n)
-      → Back 𝓤 (hads 𝓛 (map given (t ∷ n ∷ p ∷ [])) Δ) (alive l.lft ∷ RefKept l ∷ fres l.named (R.coded.code y) ∷ []) n
+      → Back 𝓤 (hads 𝓛 (map given (t ∷ n ∷ p ∷ [])) Δ) (alive l.lft ∷ RefKept l ∷ ref_left (l.lft ∷ []) R (lent_ref l) y ∷ []) n
       (put 𝓛 t (‵ (flft κ q)) (put 𝓛 p (‵ ((MutRef erased κ R).own_val (at_last x y) (mut_vals x))) (lefts 𝓛 (map given (t ∷ n ∷ p ∷ [])) Δ))) is
       → Step K 𝓛 (i ∷ listed n is) (runs C Λ E b z) (i ∷ Δ) (runs C Λ E b z)
   ref_back k {R} {κ} {q} {x} l p t n y is e = step (λ s.
-      takes k (t ∷ n ∷ p ∷ []) (ap (λ b. b.0) e) $ fsplit k $ lft_end k tt $ move k (1 ∷ []) $ fsplit3 k $ move k (3 ∷ 0 ∷ 1 ∷ []) $
+      takes k (t ∷ n ∷ p ∷ []) (ap (λ b. b.0) e) $ fsplit k $ lft_end k tt $ move k (1 ∷ []) $ fsplit3 k $ move k (1 ∷ []) $ fsplit k $ move k (1 ∷ []) $ drop k $
+      move k (3 ∷ 1 ∷ 0 ∷ []) $
       use3 𝓛 (later (‵ ((MutRef erased κ R).own_val (at_last x y) (mut_vals x)) ⊛ ‵ (flft κ q)))
       (lend.comes_back 𝓛 R erased κ (l.lft ∷ []) q x.ghost_name x.ref_ptr.0 x.ref_ptr.1 l.named x.now y) $ await k tt $ split k $
       lays k (suc (suc (suc p))) $ move k (1 ∷ []) $ drop k $ lays k (suc t) $ tidies k n is (ap (λ b. b.1) e) $ s)
 
   pub gives_up : K → (R : RattleType) (p : ℕ) {κ : Lft} (x : MutBor R.Denot) → hads 𝓛 (map given (p ∷ [])) Δ ≡ (MutRef erased κ R).own_val x (mut_vals x) ∷ []
-      → Step K 𝓛 (i ∷ put 𝓛 p (‵ (fres x.ghost_name (R.coded.code x.now))) (lefts 𝓛 (map given (p ∷ [])) Δ)) (runs C Λ E b z) (i ∷ Δ) (runs C Λ E b z)
+      → Step K 𝓛 (i ∷ put 𝓛 p (‵ (ref_left κ R x x.now)) (lefts 𝓛 (map given (p ∷ [])) Δ)) (runs C Λ E b z) (i ∷ Δ) (runs C Λ E b z)
   gives_up k R p x e = step (λ s. takes k (p ∷ []) e $ fsplit k $ fsplit3 k $ move k (1 ∷ []) $
-      use1 𝓛 (‵ (fres x.ghost_name (R.coded.code x.now))) (𝓛.names.obs-res x.ghost_name (R.coded.code x.now)) $ lays k (suc (suc (suc (suc p)))) $ drop k $
-      drop k $ drop k $ s)
+      use1 𝓛 (‵ (fres x.ghost_name (R.coded.code x.now))) (𝓛.names.obs-res x.ghost_name (R.coded.code x.now)) $ move k (0 ∷ 2 ∷ []) $ fjoin k $
+      lays k (suc (suc (suc p))) $ drop k $ drop k $ s)
 
   pub lends_slice : K → (R : RattleType) (p t : ℕ) {κ : Lft} {q : Share} (x : MutBor (List R.Denot)) (m : ℕ)
       → hads 𝓛 (map given (p ∷ t ∷ [])) Δ ≡ (MutSlice erased κ R).own_val x (slice_val x.ref_ptr m ∷ []) ∷ flft κ q ∷ []
@@ -133,14 +135,13 @@ module _ {M : Type 1} {𝓤 : Ura M} {𝓛 : Logic 𝓤} {K : Type 0} {i : Item 
 
   pub slice_back : K → {R : RattleType} {κ : Lft} {q : Share} {x : MutBor (List R.Denot)} {m : ℕ} (l : SliceLoan R κ q x m) (p t n : ℕ) (ys : List R.Denot)
       (is : Items 𝓤 n)
-      → Back 𝓤 (hads 𝓛 (map given (t ∷ n ∷ p ∷ [])) Δ) (alive l.lft ∷ SliceKept l ∷ fsep (finally R l.named ys)
-      (feq ℕ (length ys) (length x.now)) ∷ []) n
+      → Back 𝓤 (hads 𝓛 (map given (t ∷ n ∷ p ∷ [])) Δ) (alive l.lft ∷ SliceKept l ∷ slice_left (l.lft ∷ []) R (lent_slice l) ys ∷ []) n
       (put 𝓛 t (‵ (flft κ q)) (put 𝓛 p (‵ ((MutSlice erased κ R).own_val (at_last x ys) (slice_val x.ref_ptr m ∷ [])))
       (lefts 𝓛 (map given (t ∷ n ∷ p ∷ [])) Δ))) is
       → (length ys ≡ length x.now → Seq K 𝓛 (i ∷ listed n is) (runs C Λ E b z)) → Seq K 𝓛 (i ∷ Δ) (runs C Λ E b z)
   slice_back k {R} {κ} {q} {x} {m} l p t n ys is e go =
-      takes k (t ∷ n ∷ p ∷ []) (ap (λ b. b.0) e) $ fsplit k $ lft_end k tt $ move k (1 ∷ []) $ fsplit3 k $ move k (1 ∷ []) $ fsplit k $ move k (1 ∷ []) $
-      feq_l k (λ same. move k (3 ∷ 1 ∷ 0 ∷ []) $
+      takes k (t ∷ n ∷ p ∷ []) (ap (λ b. b.0) e) $ fsplit k $ lft_end k tt $ move k (1 ∷ []) $ fsplit3 k $ move k (1 ∷ []) $ fsplit k $ move k (1 ∷ []) $ drop k $
+      fsplit k $ move k (1 ∷ []) $ feq_l k (λ same. move k (3 ∷ 1 ∷ 0 ∷ []) $
       use3 𝓛 (later (‵ ((MutSlice erased κ R).own_val (at_last x ys) (slice_val x.ref_ptr m ∷ [])) ⊛ ‵ (flft κ q)))
       (again.back_at R κ (l.lft ∷ []) q x.ghost_name x.ref_ptr.0 x.ref_ptr.1 𝓛 erased erased x.now m l.counted l.named ys l.roomy same) $
       await k tt $ split k $
@@ -170,7 +171,7 @@ module _ (F : Fielded) {M : Type 1} {𝓤 : Ura M} {𝓛 : Logic 𝓤} {K : Type
 
   pub local_back : K → (l : LocalLoan) (j n : ℕ) (h : F.type.D) (is : Items 𝓤 n) → slot_at E hs j ≡ some lent → lone (row F.type).mir ≡ (spot 𝓛 E j).0
       → Back 𝓤 (hads 𝓛 (map given (suc n ∷ suc (suc n) ∷ n ∷ [])) Δ)
-      (alive l.lft ∷ LocalKept l (row F.type) (spot 𝓛 E j).1 ∷ fres l.named ((row F.type).coded.code h) ∷ []) n
+      (alive l.lft ∷ LocalKept l (row F.type) (spot 𝓛 E j).1 ∷ ref_left (l.lft ∷ []) (row F.type) (lent_local l (spot 𝓛 E j).1 h) h ∷ []) n
       (lefts 𝓛 (map given (suc n ∷ suc (suc n) ∷ n ∷ [])) Δ) is
       → (Is (row F.type) h (LL.vals F.type F.laws h) → Seq K 𝓛 (‵ (Frame E (put' j (holds (LL.val F.type F.laws h)) hs)) ∷ listed n is)
       (runs C Λ E b z))
@@ -179,7 +180,8 @@ module _ (F : Fielded) {M : Type 1} {𝓤 : Ura M} {𝓛 : Logic 𝓤} {K : Type
       let o : ℕ = (spot 𝓛 E j).1 in
       let R : RattleType = row F.type in
       let v : Val = LL.val F.type F.laws h in
-      takes k (suc n ∷ suc (suc n) ∷ n ∷ []) (ap (λ c. c.0) has) $ fsplit k $ lft_end k tt $ move k (1 ∷ []) $ fsplit3 k $ move k (3 ∷ 0 ∷ 1 ∷ []) $
+      takes k (suc n ∷ suc (suc n) ∷ n ∷ []) (ap (λ c. c.0) has) $ fsplit k $ lft_end k tt $ move k (1 ∷ []) $ fsplit3 k $ move k (1 ∷ []) $ fsplit k $ move k (1 ∷ []) $ drop k $
+      move k (3 ∷ 1 ∷ 0 ∷ []) $
       use3 𝓛 (later (given' (Is R h (LL.vals F.type F.laws h)) (‵ (fat full_share (lone R.mir) o zero v))))
       (local.back F.type F.laws F.plain 𝓛 o (l.lft ∷ []) l.named h) $
       await k tt $ learn k (λ is-h. rewrite k 0 (λ (τ : Ty). ‵ (fat full_share τ o zero v)) same refl $ move k (0 ∷ 2 ∷ []) $

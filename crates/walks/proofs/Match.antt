@@ -8,7 +8,7 @@ use mathlib.Core.List.{List, ◌∷◌}
 use mathlib.Core.Option.{Option, none, some, none-ne-some, some-injective}
 use Prim.Native.Nat.{ℕ, zero, suc}
 use seplogic.Ra.Ura.{Ura}
-use mir.Syntax.{Width, Body, Arms, Opd as Operand, skip, seq, assign, block, loop, cond, switch, exit, return, call, arm, default, no_default}
+use mir.Syntax.{Width, Body, Arms, Opd as Operand, skip, seq, assign, block, loop, cond, switch, exit, return, call, unreachable, call_v, lend_static, arm, default, no_default}
 use mir.Val.{vint, has_key}
 use base.Logic.{SProp, ent}
 use prog.Wp.{Heap, Env, Out, next, exits, returns, Calls, Loops, Wp, WpArms, after_seq, branch}
@@ -41,6 +41,9 @@ behind (switch o arms) c = seq (switch o arms) c
 behind (exit n) c = exit n
 behind return c = return
 behind (call f xs d) c = seq (call f xs d) c
+behind unreachable c = unreachable
+behind (call_v f σ xs d) c = seq (call_v f σ xs d) c
+behind (lend_static d τ k) c = seq (lend_static d τ k) c
 
 abbrev arm_of : ℕ → Arms → Body
 arm_of zero (arm ks b rest) = b
@@ -61,6 +64,9 @@ arm_at i (cond c a b) = skip
 arm_at i (exit n) = skip
 arm_at i return = skip
 arm_at i (call f xs d) = skip
+arm_at i unreachable = skip
+arm_at i (call_v f σ xs d) = skip
+arm_at i (lend_static d τ k) = skip
 
 abbrev pub rest_of : ℕ → Body → Body
 rest_of zero b = b
@@ -74,6 +80,9 @@ rest_of (suc i) (switch c arms) = skip
 rest_of (suc i) (exit n) = skip
 rest_of (suc i) return = skip
 rest_of (suc i) (call f xs d) = skip
+rest_of (suc i) unreachable = skip
+rest_of (suc i) (call_v f σ xs d) = skip
+rest_of (suc i) (lend_static d τ k) = skip
 
 module _ {M : Type 1} (𝓤 : Ura M) (H : Heap 𝓤) (C : Calls 𝓤 H) (Λ : Loops 𝓤 H) (E : Env 𝓤 H) where
   abbrev W : Body → (Out → SProp 𝓤) → SProp 𝓤
@@ -96,6 +105,9 @@ module _ {M : Type 1} (𝓤 : Ura M) (H : Heap 𝓤) (C : Calls 𝓤 H) (Λ : Lo
   behind_same (exit n) c Q = refl
   behind_same return c Q = refl
   behind_same (call f xs d) c Q = refl
+  behind_same unreachable c Q = refl
+  behind_same (call_v f σ xs d) c Q = refl
+  behind_same (lend_static d τ k) c Q = refl
 
   chosen_runs : (x : ℕ) (arms : Arms) (b : Body) (Q : Out → SProp 𝓤) → chosen x arms ≡ some b → WpArms 𝓤 H C Λ E arms x Q ≡ W b Q
   chosen_runs x (arm ks a arms) b Q e = go (has_key ks x) (chosen_runs x arms b Q) e

@@ -7,10 +7,10 @@
 use mathlib.Core.Path.{◌≡◌, refl, ap, ◌∙◌}
 use mathlib.Core.List.{List, [], ◌∷◌}
 use Prim.Native.Nat.{ℕ, zero, suc}
-use seplogic.Ra.TreeShare.{full_share}
+use base.Fraction.{full_share}
 use mir.Val.{Val}
 use base.Fml.{Lft, Share, Fml, ftrue, ffalse, feq, flt, fsep, fand, for, fwand, fex, fall, fupd, fat, froom, fdies, flft, fdead, fobs, fauth, fres, fbor, fobor}
-use base.Fml.{flent, fshr_bor}
+use base.Fml.{flent, fshr_bor, fhide, fleft, fown, finv, fnamed, ftok, fkid, fme, fsent}
 use contract.Lifetimes.{Lfts, Shares}
 use denote.Exit.{Exit, unchanged, leaves, Last, left}
 use denote.RattleType.{RattleType, Denots, Valss, owns}
@@ -31,18 +31,27 @@ token (fwand P Q) = ([], full_share)
 token (fex d F) = ([], full_share)
 token (fall d F) = ([], full_share)
 token (fupd P) = ([], full_share)
+token (fhide P) = ([], full_share)
 token (fat q τ b o v) = ([], full_share)
 token (froom τ b o) = ([], full_share)
+token (fleft q ω τs b o) = ([], full_share)
 token (fdies τ b) = ([], full_share)
 token (flft κ q) = (κ, q)
 token (fdead κ) = ([], full_share)
 token (fobs γ x) = ([], full_share)
 token (fauth γ x) = ([], full_share)
 token (fres γ x) = ([], full_share)
+token (fown R γ x) = ([], full_share)
 token (fbor κ P) = ([], full_share)
 token (fobor κ q P) = ([], full_share)
 token (flent κ P) = ([], full_share)
 token (fshr_bor κ Φ) = ([], full_share)
+token (finv P) = ([], full_share)
+token (fnamed n P) = ([], full_share)
+token (ftok m) = ([], full_share)
+token (fkid h a) = ([], full_share)
+token (fme h) = ([], full_share)
+token (fsent h) = ([], full_share)
 
 abbrev pub lfts_of : (n : ℕ) → List Fml → Lfts n
 lfts_of zero Fs = tt
@@ -66,11 +75,11 @@ singles (R ∷ Ts) (v ∷ vs) = (v ∷ [], singles Ts vs)
 
 abbrev pub owns_each : (Ts : List RattleType) → Denots Ts → Valss Ts → List Fml
 owns_each [] a vss = []
-owns_each (R ∷ Ts) a vss = R.own a.0 vss.0 ∷ owns_each Ts a.1 vss.1
+owns_each (R ∷ Ts) a vss = R.own_val a.0 vss.0 ∷ owns_each Ts a.1 vss.1
 
 pub owns_each_lem : (Ts : List RattleType) (a : Denots Ts) (vss : Valss Ts) → nest (owns_each Ts a vss) ≡ owns Ts a vss
 owns_each_lem [] a vss = refl
-owns_each_lem (R ∷ Ts) a vss = ap (fsep (R.own a.0 vss.0)) (owns_each_lem Ts a.1 vss.1)
+owns_each_lem (R ∷ Ts) a vss = ap (fsep (R.own_val a.0 vss.0)) (owns_each_lem Ts a.1 vss.1)
 
 module _ {n : ℕ} (κs : Lfts n) where
   abbrev pub lasts_each : (ss : List (Slot n)) (ks : Kepts ss) (a : Denots (types_at ss κs)) → Fins κs ss ks a → List Fml
@@ -85,27 +94,27 @@ module _ {n : ℕ} (κs : Lfts n) where
 -- ---- the last values alone
 abbrev with_last : {D : Type 0} (e : Exit D) → D → Type 0 → Type 0
 with_last unchanged x S = S
-with_last (leaves L l Z z) x S = L x × S
+with_last (leaves L l Z z r) x S = L x × S
 
 abbrev the_last : {D : Type 0} (e : Exit D) (x : D) (S : Type 0) → with_last e x S → Last e x
 the_last unchanged x S w = tt
-the_last (leaves L l Z z) x S w = w.0
+the_last (leaves L l Z z r) x S w = w.0
 
 abbrev the_rest : {D : Type 0} (e : Exit D) (x : D) (S : Type 0) → with_last e x S → S
 the_rest unchanged x S w = w
-the_rest (leaves L l Z z) x S w = w.1
+the_rest (leaves L l Z z r) x S w = w.1
 
 abbrev of_both : {D : Type 0} (e : Exit D) (x : D) (S : Type 0) → Last e x → S → with_last e x S
 of_both unchanged x S w s = s
-of_both (leaves L l Z z) x S w s = (w, s)
+of_both (leaves L l Z z r) x S w s = (w, s)
 
 last_of_both : {D : Type 0} (e : Exit D) (x : D) (S : Type 0) (w : Last e x) (s : S) → the_last e x S (of_both e x S w s) ≡ w
 last_of_both unchanged x S w s = refl
-last_of_both (leaves L l Z z) x S w s = refl
+last_of_both (leaves L l Z z r) x S w s = refl
 
 rest_of_both : {D : Type 0} (e : Exit D) (x : D) (S : Type 0) (w : Last e x) (s : S) → the_rest e x S (of_both e x S w s) ≡ s
 rest_of_both unchanged x S w s = refl
-rest_of_both (leaves L l Z z) x S w s = refl
+rest_of_both (leaves L l Z z r) x S w s = refl
 
 module _ {n : ℕ} (κs : Lfts n) where
   abbrev pub Short : (ss : List (Slot n)) → Kepts ss → Denots (types_at ss κs) → Type 0

@@ -11,12 +11,12 @@ use Prim.Native.Nat.{ℕ, zero, suc, ◌^◌}
 use lib.Dec.{T, ltb, ltb→lt, eqb}
 use lib.ListN.{get_or}
 use mir.Fields.{get_v}
-use mir.Syntax.{Sym, Width, w8, w16, w32, w64, w128, Ty, ty_int, ty_bool, ty_float, ty_ptr, ty_ref, ty_array, ty_unit, ty_struct, ty_enum, ty_named, Tys, Tyss, ttnil}
-use mir.Syntax.{Step as PStep, deref, field, variant, place, Opd as Operand, copy, int, int_neg, int_big, float, opd_true, opd_false, opd_unit, ptr_const}
-use mir.Syntax.{Rv as RValue, rv_opd, op1, op2, addr_of, aggregate, repeat}
-use mir.Val.{Val, vunit, vbool, vint, vfloat, vptr, vstruct, Vals, vnil, vcons, of_list, WT, WTs, bits}
+use mir.Syntax.{Sym, Width, w8, w16, w32, w64, w128, Ty, ty_int, ty_bool, ty_float, ty_ptr, ty_ref, ty_array, ty_unit, ty_struct, ty_enum, ty_named, ty_param, ty_const, ty_array_p, Tys, Tyss, ttnil}
+use mir.Syntax.{Step as PStep, deref, field, variant, place, Opd as Operand, copy, int, int_neg, int_big, float, opd_true, opd_false, opd_unit, ptr_const, size_of, align_of, num_of, fn_addr, vtable}
+use mir.Syntax.{Rv as RValue, rv_opd, op1, op2, addr_of, aggregate, repeat, repeat_p, select}
+use mir.Val.{Val, vunit, vbool, vint, vfloat, vptr, vcode, vstruct, Vals, vnil, vcons, of_list, WT, WTs, bits}
 use prog.Memory.{field_at, variant_at}
-use Rattle.walks.proofs.Frame.{Held, holds, held_at, Typed}
+use Rattle.walks.proofs.Frame.{Held, held_at, Typed}
 
 -- ---- the computation
 abbrev pub on : {X Y : Type 0} → Option X → (X → Option Y) → Option Y
@@ -34,6 +34,7 @@ struct (vbool b) = none
 struct (vint w n) = none
 struct (vfloat f x) = none
 struct (vptr b o) = none
+struct (vcode c) = none
 struct (vstruct us) = some (us, refl)
 
 abbrev pub live_one : (us : Vals) → Option ((kw : ℕ × Vals) × (us ≡ vcons (vint w8 kw.0) kw.1))
@@ -47,6 +48,7 @@ live_one (vcons (vint w64 k) us) = none
 live_one (vcons (vint w128 k) us) = none
 live_one (vcons (vfloat f x) us) = none
 live_one (vcons (vptr b o) us) = none
+live_one (vcons (vcode c) us) = none
 live_one (vcons (vstruct ws) us) = none
 
 abbrev pub struct_type : (τ : Ty) → Option ((s : Sym × Tys) × (τ ≡ ty_struct s.0 s.1))
@@ -59,7 +61,10 @@ struct_type (ty_array τ n) = none
 struct_type ty_unit = none
 struct_type (ty_struct ν τs) = some ((ν, τs), refl)
 struct_type (ty_enum ν τss) = none
-struct_type (ty_named ν) = none
+struct_type (ty_param n) = none
+struct_type (ty_const n) = none
+struct_type (ty_array_p τ n) = none
+struct_type (ty_named h τs) = none
 
 abbrev pub enum_type : (τ : Ty) → Option ((s : Sym × Tyss) × (τ ≡ ty_enum s.0 s.1))
 enum_type (ty_int w) = none
@@ -71,7 +76,10 @@ enum_type (ty_array τ n) = none
 enum_type ty_unit = none
 enum_type (ty_struct ν τs) = none
 enum_type (ty_enum ν τss) = some ((ν, τss), refl)
-enum_type (ty_named ν) = none
+enum_type (ty_param n) = none
+enum_type (ty_const n) = none
+enum_type (ty_array_p τ n) = none
+enum_type (ty_named h τs) = none
 
 -- along the steps of a place; fin says what is had at their end, or at a pointer
 module _ (fin : Val → List PStep → Option Val) where
@@ -99,6 +107,7 @@ pointer (vbool b) = none
 pointer (vint w n) = none
 pointer (vfloat f x) = none
 pointer (vptr b o) = some (vptr b o)
+pointer (vcode c) = none
 pointer (vstruct vs) = none
 
 abbrev pub behind : Val → List PStep → Option Val
@@ -122,6 +131,11 @@ opd_of E hs opd_true = some (vbool true)
 opd_of E hs opd_false = some (vbool false)
 opd_of E hs opd_unit = some vunit
 opd_of E hs (ptr_const n) = none
+opd_of E hs (size_of τ) = none
+opd_of E hs (align_of τ) = none
+opd_of E hs (num_of w τ) = none
+opd_of E hs (fn_addr c σ) = none
+opd_of E hs (vtable τ ss) = none
 
 abbrev pub opds_of : List (Ty × ℕ) → List Held → List Operand → Option (List Val)
 opds_of E hs [] = some []
@@ -135,6 +149,8 @@ rv_of E hs (addr_of (place i [])) = some (vptr (get_or E i (ty_enum [] ttnil, ze
 rv_of E hs (addr_of (place i (s ∷ st))) = on (held_at E hs i) (λ v. along behind (type_at E i) v (s ∷ st))
 rv_of E hs (aggregate xs) = on (opds_of E hs xs) (λ vs. some (vstruct (of_list vs)))
 rv_of E hs (repeat x n) = none
+rv_of E hs (repeat_p x n) = none
+rv_of E hs (select x y z) = none
 
 -- ---- a value that is read is one that its width holds
 abbrev Good : Option Val → Type 0
@@ -202,6 +218,7 @@ pointer_good (vbool b) = tt
 pointer_good (vint w n) = tt
 pointer_good (vfloat f x) = tt
 pointer_good (vptr b o) = tt
+pointer_good (vcode c) = tt
 pointer_good (vstruct vs) = tt
 
 behind_good : (v : Val) (st : List PStep) → WT v → Good (behind v st)
@@ -232,6 +249,11 @@ opd_good E hs ts opd_true = tt
 opd_good E hs ts opd_false = tt
 opd_good E hs ts opd_unit = tt
 opd_good E hs ts (ptr_const n) = tt
+opd_good E hs ts (size_of τ) = tt
+opd_good E hs ts (align_of τ) = tt
+opd_good E hs ts (num_of w τ) = tt
+opd_good E hs ts (fn_addr c σ) = tt
+opd_good E hs ts (vtable τ ss) = tt
 
 opds_good : (E : List (Ty × ℕ)) (hs : List Held) → Typed E hs → (xs : List Operand) (vs : List Val) → opds_of E hs xs ≡ some vs → WTs (of_list vs)
 opds_good E hs ts [] vs e = subst (λ (us : List Val). WTs (of_list us)) (some-injective [] vs e) tt
@@ -252,3 +274,5 @@ rv_good E hs ts (aggregate xs) v e =
     let a = on_some (opds_of E hs xs) (λ vs. some (vstruct (of_list vs))) v e in
     subst WT (some-injective (vstruct (of_list a.0)) v a.2) (opds_good E hs ts xs a.0 a.1)
 rv_good E hs ts (repeat x n) v e = absurd (none-ne-some v e)
+rv_good E hs ts (repeat_p x n) v e = absurd (none-ne-some v e)
+rv_good E hs ts (select x y z) v e = absurd (none-ne-some v e)

@@ -2,7 +2,7 @@
 --     Way s k          how a parameter at the slot s is passed and left: its machine value, with the type's laws, and what the walk has of it at exit
 --     value D, shared j R      plain data; a `&[R]` at the lifetime numbered j. At exit they are had as they were passed
 --     kept_ref, kept-slice     a `&mut` that the walk still has at exit, at its last value
---     gave_ref, gave_slice     one that it has passed on for good: what it has is what says the last value
+--     gave_ref, gave_slice     one that it has passed on for good: what it has says the last value, and hands the borrow back (`ref_left`, `slice_left`)
 --     Site Q c ways    what a function was called with: lifetimes, shares, bounds, arguments and ghost value
 --     arg s i, rel s are i     argument i, and its relation to its machine value
 --     Start s          the entries behind the locals where the function is entered: a token for each lifetime, then what each parameter owns, in order
@@ -22,9 +22,9 @@ use lib.Dec.{T}
 use lib.ListN.{length, take}
 use mir.Syntax.{Ty, Fn, named, erased, return}
 use mir.Fields.{get_v}
-use mir.Val.{Val, vunit, vbool, vint, vfloat, vptr, vstruct, Vals, vnil, as_int}
+use mir.Val.{Val, vunit, vbool, vint, vfloat, vptr, vcode, vstruct, Vals, vnil, as_int}
 use base.Logic.{SProp, ent, sep, emp, id⊢, via, assoc∗, assoc', mono_r, snd∗, emp∗}
-use base.Fml.{Lft, Fml, ftrue, fsep, feq, fres}
+use base.Fml.{Lft, Fml, ftrue, fsep, feq, fres, fbor}
 use prog.Wp.{Env, Calls, Loops, Tables, WpFn, at_return, returns as returnsᴼ}
 use types.Logic.{Logic, sem}
 use sound.WpLaws.{WpFn-mono}
@@ -36,6 +36,9 @@ use denote.Exit.{Kept, yes, Last, left}
 use denote.RattleType.{RattleType, Denots, Valss, flat, mirs, owns}
 use denote.Shadow.{pure_l, makes_shadow}
 use denote.Laws.{Is, Tells, Rels, Are, Ises, Spells, valss, Tellss, Lawful, Lawfuls, all_Typed, Typed as TypedAs}
+use types.SemTy.{Arr, Body}
+use types.Hole.{Holey}
+use denote.Memory.{mem}
 use denote.Ref.{MutBor, MutRef, at_last, mut_vals, mut_Tells, mut_Lawful}
 use denote.Slice.{ShrSlice, MutSlice, slice_val, shr_slice_vals, mut_slice_vals, finally, res-finally, coded_holeys, heres, mut_slice_at, shr_slice_Tells, mut_slice_Tells}
 use denote.Slice.{shr_slice_Lawful, mut_slice_Lawful}
@@ -70,29 +73,40 @@ fields_of (vbool t) = vnil
 fields_of (vint w m) = vnil
 fields_of (vfloat f x) = vnil
 fields_of (vptr b o) = vnil
+fields_of (vcode c) = vnil
 fields_of (vstruct vs) = vs
 
 abbrev pub count : List Val → ℕ
 count [] = zero
 count (v ∷ vs) = as_int zero (get_v (fields_of v) 1) (λ _ m. m)
 
+-- what is left of a `&mut` at exit: what says its last value, and the borrow, which is handed back
+module _ (κ : Lft) (R : RattleType) where
+  abbrev pub ref_left : MutBor R.Denot → R.Denot → Fml
+  ref_left x w = fsep (fres x.ghost_name (R.coded.code w)) (fbor κ (Body (mem R) x.ref_ptr.0 x.ref_ptr.1 x.ghost_name))
+
+  abbrev pub slice_left : MutBor (List R.Denot) → List R.Denot → Fml
+  slice_left x ws = fsep (fsep (finally R x.ghost_name ws) (feq ℕ (length ws) (length x.now)))
+      (fbor κ (Body (Arr (Holey (mem R)) (length x.now)) x.ref_ptr.0 x.ref_ptr.1 x.ghost_name))
+
 module _ {M : Type 1} {𝓤 : Ura M} (𝓛 : Logic 𝓤) (κ : Lft) (R : RattleType) where
   open 𝓛 use {H}
 
   pub ref_goes : (x : MutBor R.Denot) (w : R.Denot) → ent 𝓤 (sem 𝓛 ((MutRef erased κ R).own_val (at_last x w) (mut_vals x)))
-      (H.⇛ (sem 𝓛 (fres x.ghost_name (R.coded.code w))))
+      (H.⇛ (sem 𝓛 (ref_left κ R x w)))
   ref_goes x w =
       qed 𝓛 (‵ ((MutRef erased κ R).own_val (at_last x w) (mut_vals x)) ∷ []) ∵ updating ! $ at_once ! $ fsplit3 ! $ move ! (1 ∷ []) $
-      use1 𝓛 (‵ (fres x.ghost_name (R.coded.code w))) (𝓛.names.obs-res x.ghost_name (R.coded.code w)) $ keep ! (0 ∷ []) $ done !
+      use1 𝓛 (‵ (fres x.ghost_name (R.coded.code w))) (𝓛.names.obs-res x.ghost_name (R.coded.code w)) $ keep ! (0 ∷ 2 ∷ []) $ done !
 
   pub slice_goes : (x : MutBor (List R.Denot)) (ws : List R.Denot) → ent 𝓤 (sem 𝓛 ((MutSlice erased κ R).own_val (at_last x ws) (mut_slice_vals x)))
-      (H.⇛ (sem 𝓛 (fsep (finally R x.ghost_name ws) (feq ℕ (length ws) (length x.now)))))
+      (H.⇛ (sem 𝓛 (slice_left κ R x ws)))
   slice_goes x ws =
       qed 𝓛 (‵ ((MutSlice erased κ R).own_val (at_last x ws) (mut_slice_vals x)) ∷ []) ∵ updating ! $ at_once ! $ fsplit ! $
       pure_l ! (mut_slice_at R (at_last x ws) (mut_slice_vals x)) (λ p. fsplit ! $
       use1 𝓛 (‵ (fres x.ghost_name ((coded_holeys R).code (heres R ws)))) (𝓛.names.obs-res x.ghost_name ((coded_holeys R).code (heres R ws))) $
       use1 𝓛 (‵ (finally R x.ghost_name ws)) (res-finally 𝓛 erased κ R x.ghost_name ws) $
-      keep ! (0 ∷ []) $ feq_i ! ℕ (length ws) (length x.now) (sym (ap count p.0)) $ move ! (1 ∷ 0 ∷ []) $ fjoin ! $ done !)
+      rewrite ! 1 (λ (m : ℕ). ‵ (fbor κ (Body (Arr (Holey (mem R)) m) x.ref_ptr.0 x.ref_ptr.1 x.ghost_name))) (sym (ap count p.0)) refl $
+      keep ! (0 ∷ 1 ∷ []) $ feq_i ! ℕ (length ws) (length x.now) (sym (ap count p.0)) $ move ! (1 ∷ 0 ∷ []) $ fjoin ! $ done !)
 
 module _ {n : ℕ} where
   abbrev pub value : {R : RattleType} (D : Data R) → ((x : R.Denot) (f : Last (R.exit yes) x) → left (R.exit yes) x f ≡ ftrue)
@@ -101,7 +115,7 @@ module _ {n : ℕ} where
     val = λ κs. D.val;
     tells = λ κs. D.tells;
     lawful = λ 𝓛 κs. D.lawful 𝓛;
-    has = λ κs x f. R.own x (D.val x ∷ []);
+    has = λ κs x f. R.own_val x (D.val x ∷ []);
     goes = λ 𝓛 κs x f. quiet 𝓛 _ (left (R.exit yes) x f) (still x f);
   }
 
@@ -129,7 +143,7 @@ module _ {n : ℕ} where
       val = kept-slice.val;
       tells = kept-slice.tells;
       lawful = kept-slice.lawful;
-      has = λ κs x ws. fsep (finally R x.ghost_name ws) (feq ℕ (length ws) (length x.now));
+      has = λ κs x ws. slice_left (meet_at n (j ∷ []) ok κs) R x ws;
       goes = λ 𝓛 κs x ws. 𝓛.laws.⇛_intro _;
     }
 
@@ -147,7 +161,7 @@ module _ {n : ℕ} where
       val = kept_ref.val;
       tells = kept_ref.tells;
       lawful = kept_ref.lawful;
-      has = λ κs x w. fres x.ghost_name (R.coded.code w);
+      has = λ κs x w. ref_left (meet_at n (j ∷ []) ok κs) R x w;
       goes = λ 𝓛 κs x w. 𝓛.laws.⇛_intro _;
     }
 
@@ -311,7 +325,7 @@ module _ {M : Type 1} {𝓤 : Ura M} {Q : Ended} {c : Clauses 𝓤 Q} {ways : Wa
         suffices ! _ (ends_at 𝓛 Q stayed c ((s.κs, s.qs, s.bounds, s.args, vals), s.ghost) (D.val r) r (full w)
         (fitting s.κs Q.signature.params Q.kept ways s.args (full w))) $
         use0 𝓛 (raw ((c s.κs s.args).ensures s.ghost r (at_exit Q s.κs s.args (full w)))) ok $
-        use0 𝓛 (‵ (Result.own r (D.val r ∷ []))) (makes_shadow 𝓛 (Result.own r (D.val r ∷ [])) (D.pure r (D.val r ∷ [])) is) $
+        use0 𝓛 (‵ (Result.own_val r (D.val r ∷ []))) (makes_shadow 𝓛 (Result.own_val r (D.val r ∷ [])) (D.pure r (D.val r ∷ [])) is) $
         -- [the result; the `ensures`; the tokens; what is had of the parameters]
         move ! (2 ∷ 3 ∷ 0 ∷ 1 ∷ []) $ recast 𝓛 (raw (toks 𝓛 Q.signature.lifetimes s.κs s.qs))
         (tokens_are 𝓛 Q.signature.lifetimes s.κs s.qs) $
