@@ -80,7 +80,7 @@ returns-2 c =
 
 write-records-requires : tie.Need-write_records-requires
 write-records-requires c κs =
-    let u = c.before.before.before.before.before in
+    let u = c.before.before.before in
     let f = found u in
     let k = k f in
     let marked = f.mark.ensures.marked (not-false _ f.if-not-mark.false-raw) in (
@@ -90,14 +90,14 @@ write-records-requires c κs =
 
 write-keys-requires : tie.Need-write_keys-requires
 write-keys-requires c κs =
-    let u = c.before.before.before.before.before.before.before.before.before.before.before.before.before.before in
+    let u = c.before.before.before.before.before.before.before.before.before.before.before in
     let f = found u in
     let k = k f in
     (f.find_keys-count.ensures.noted, key-room (code k) (bytes k) (old k) (tokens k) (oracles k) (passes k) (narrow-told f) _ _ f.find_keys-count.ensures (roomy u))
 
 returns-3 : tie.Need-returns
 returns-3 c =
-    let u = c.before.before.before.before.before.before.before.before.before.before.before.before.before.before.before.before.before in
+    let u = c.before.before.before.before.before.before.before.before.before.before.before.before.before.before in
     let f = found u in
     let k = k f in
     let marked = f.mark.ensures.marked (not-false _ f.if-not-mark.false-raw) in
