@@ -30,10 +30,10 @@ write_fields_spec =
     (λ c. search rules)
     (λ c.
     let a = c.args in
-    let l = c.write.new.1 in
+    let l = c.write.new in
     fields_written a.code.now (all_of (λ x. x < 256) a.code.now 0 (λ i. (c.shared_slice_known-1.given i).fits))
     a.count c.to_write-n.result c.to_write-n.ensures
     a.kinds.now a.numbers.now a.places.now a.keys.now
-    (record { kinds = l.0; numbers = l.1.0; places = l.1.1.0; keys = l.1.1.1.0 }) c.write_answer.result
+    (record { kinds = l.kinds; numbers = l.numbers; places = l.places; keys = l.keys }) c.write_answer.result
     (omega arith) (omega arith) (omega arith)
     (c.write_answer.ensures ∙ ap (λ (x : Wrote). write_answer x.answer) c.write.ensures) (ap (λ (x : Wrote). x.records) c.write.ensures)))

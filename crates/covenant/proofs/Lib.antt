@@ -1,2 +1,0 @@
--- Laws of what the specs of this crate define, one file a subject.
-pub mod Arrays
