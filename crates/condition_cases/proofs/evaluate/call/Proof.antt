@@ -6,25 +6,11 @@ use Rattle.condition_cases.proofs.evaluate.call.Tie as tie
 
 returns : tie.Need-returns
 returns c =
-    let call = c.before.before.before.before.before.before.before in
-    let p₉ = call.before.before.before in
-    let at = p₉.before in
-    let p₁₁ = at.before in
-    let p₈ = p₁₁.before in
-    let p₆ = p₈.before.before in
-    let p₄ = p₆.before.before in
-    let p₂ = p₄.before.before in
-    let p₀ = p₂.before.before in
-    let p₁₀ = p₀.before in
-    let p₇ = p₁₀.before.before in
-    let p₅ = p₇.before.before in
-    let p₃ = p₅.before.before in
-    let p₁ = p₃.before.before in
-    let s = p₁.before.before.before.before in
-    let e = evaluate_lent_lem s.args.body.now _ _ _ _ _ _ _ _ _ _ _ s.args.checks.now _ p₀.part.ensures p₁.words.ensures p₂.part2.ensures
-    p₃.words2.ensures p₄.part3.ensures p₅.words3.ensures p₆.part-2.ensures p₇.words-spent.ensures p₈.part-4.ensures
-    (rw p₁₁.part-5.ensures at at.word.ensures) p₉.part-6.ensures p₁₀.halves.ensures in
-    (rw e at call.covenant_evaluate.ensures.0, rw e at call.covenant_evaluate.ensures.1)
+    let a = c.args in
+    let e = evaluate_lent_lem a.body.now _ _ _ _ _ _ _ _ _ _ _ a.checks.now _ c.part.ensures c.words-spent.ensures c.part-2.ensures
+    c.words-outputs.ensures c.part-3.ensures c.words-issued.ensures c.part-4.ensures c.words-reissued.ensures c.part-5.ensures
+    (rw c.part-6.ensures at c.word.ensures) c.part-7.ensures c.halves-ends.ensures in
+    (rw e at c.covenant_evaluate.ensures.0, rw e at c.covenant_evaluate.ensures.1)
 
 pub call_spec : {M : Type 1} → statement M
 call_spec =

@@ -6,13 +6,8 @@ use Rattle.token_cases.proofs.decode.call.Tie as tie
 
 returns : tie.Need-returns
 returns c =
-    let d = c.before.before.before.before in
-    let keys = d.before.before in
-    let kinds = keys.before.before.before in
-    let body = kinds.args.body.now in
-    let p = kinds.before in
-    let e = decode-lent body _ _ _ _ kinds.part.ensures p.words-numbers.ensures p.halves.ensures keys.part-2.ensures in
-    (rw e at d.covenant_decode.ensures.0, rw e at d.covenant_decode.ensures.1.0)
+    let e = decode-lent c.args.body.now _ _ _ _ c.part.ensures c.words-numbers.ensures c.halves-places.ensures c.part-2.ensures in
+    (rw e at c.covenant_decode.ensures.0, rw e at c.covenant_decode.ensures.1.0)
 
 pub call_spec : {M : Type 1} → statement M
 call_spec =

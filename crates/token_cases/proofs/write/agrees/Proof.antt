@@ -8,14 +8,10 @@ use Rattle.token_cases.proofs.write.agrees.Tie as tie
 
 returns : tie.Need-returns
 returns c =
-    let d = c.before.before.before.before.before.before.before.before.before in
-    let b = d.before.before.before.before.before.before.before.before in
-    let body = b.args.body.now in
-    let l = d.call-answer.new.1 in
-    let k = d.before.before.before.before.before in
-    let p = k.before in
-    let left = rw (b.filled-kinds.ensures, p.filled_words-numbers.ensures, p.filled_places-places.ensures, k.filled_keys-keys.ensures) at d.call-answer.ensures in
-    c.all_known.ensures ∙ write-compared body _ (records_of l.0 l.1.0 l.1.1.0 l.1.1.1.0) left.0 left.1
+    let body = c.args.body.now in
+    let l = c.call-answer.new in
+    let left = rw (c.filled-kinds.ensures, c.filled_words-numbers.ensures, c.filled_places-places.ensures, c.filled_keys-keys.ensures) at c.call-answer.ensures in
+    c.all_known.ensures ∙ write-compared body _ (records_of l.kinds l.numbers l.places l.keys) left.0 left.1
 
 pub agrees_spec : {M : Type 1} → statement M
 agrees_spec =
