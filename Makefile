@@ -3,8 +3,7 @@
 .PHONY: run test edits compare bench memcheck vectors toolchain listed archive listing
 
 run: toolchain
-	@tests/prove.sh check examples
-	@target/bin/examples
+	@tests/build.sh examples examples target/bin/examples
 
 test: toolchain listed
 	tests/run.sh
@@ -15,11 +14,11 @@ edits: toolchain
 
 # target/staticlib/libcovenant.a, for the programs that link it
 archive: toolchain
-	@tests/prove.sh staticlib covenant
+	@tests/build.sh covenant_c libcovenant_c.a target/staticlib/libcovenant.a
 
 # target/bin/listing, which prints the sheet of the condition code on its standard input
 listing: toolchain
-	@tests/prove.sh check listing
+	@tests/build.sh listing listing target/bin/listing >/dev/null
 
 # a million generated cases, both sides in one process
 compare: archive

@@ -1,6 +1,6 @@
 #!/bin/sh
-# run_check.sh: tries run.sh over steps that only print. Where all pass, its last line is 'N passed, 0 failed', which stands there once; where one fails, whatever it prints, the
-# last line is another, and the status is not 0.
+# run_check.sh: tries run.sh over steps that only print. Where all pass, its last line is 'N passed, 0 failed', which stands there once; where one fails, whatever it prints, or
+# where rt ci could not try an edit, the last line is another, and the status is not 0.
 set -eu
 here=$(cd "$(dirname "$0")" && pwd)
 work=$(mktemp -d)
@@ -14,19 +14,21 @@ step() {
     chmod +x "$work/$1"
 }
 step tests/run_check.sh check
-step bin/rt fmt
-step tests/prove.sh prove
-sed -i 's/7 passed/8 passed/; /&2/d' "$work/tests/prove.sh"
-step bin/make archive
+step bin/rt prove
+sed -i 's/7 passed/8 passed/; /&2/d' "$work/bin/rt"
+sed -i '2i test "$FAILS" = bad && bad=", 1 bad" || bad=\necho "rt: ok (must-fail edits: 5 refused$bad)"' "$work/bin/rt"
+step bin/make make
+sed -i '$d' "$work/bin/make"
+echo 'case "$*" in *"$FAILS"*) false ;; esac' >>"$work/bin/make"
 step tests/boundary/run.sh boundary
-step tests/listing/run.py listing
+step tests/listing/run.py sheets
 step tests/vectors/generate.py generate
 sed -i 's/^echo/cp crates\/vectors\/data\/cases "$1"; echo/' "$work/tests/vectors/generate.py"
 tried() { (cd "$work" && FAILS=$1 PATH="$work/bin:$PATH" tests/run.sh) >"$work/out" 2>&1; }
 tried nothing || { echo "run_check: a gate whose steps all pass fails" >&2; exit 1; }
 test "$(tail -n 1 "$work/out")" = "8 passed, 0 failed"
 test "$(grep -c '8 passed' "$work/out")" = 1
-for fails in check fmt prove archive boundary listing generate; do
+for fails in check prove bad archive boundary listing sheets generate; do
     if tried $fails; then
         echo "run_check: the gate passes where $fails fails" >&2
         exit 1

@@ -1,4 +1,4 @@
-// The unit's boundary: the calls as C sees them (include/covenant.h), thin over the crates that make them.
+// The unit's boundary: the calls as C sees them (include/covenant.h, exported by `covenant_c`), thin over the crates that make them.
 #![tactic(auto)]
 
 pub mod token_records;
@@ -17,8 +17,7 @@ ghost use Rattle.script.specs.WriteScript.{wrote_script};
 use answers::{CheckAnswer, DecodeAnswer, EvaluateAnswer, ScriptAnswer, WriteAnswer};
 
 // Check: `code` is lent and only read. Refusals 1 to 5.
-#[unsafe(no_mangle)]
-pub extern "C" fn covenant_check(code: &[u8]) -> CheckAnswer
+pub fn covenant_check(code: &[u8]) -> CheckAnswer
     ensures { result ≡ check_answer (checked code.now) }
 {
     answers::check_answer(condition::check(code))
@@ -26,8 +25,7 @@ pub extern "C" fn covenant_check(code: &[u8]) -> CheckAnswer
 
 // Evaluate: of what is lent only `checks` is written, 112 bytes at its front for each check reported, with a refusal too.
 // Refusals 1 to 5, 8, 12, 7, then 20 to 41 in the order of evaluation.
-#[unsafe(no_mangle)]
-pub extern "C" fn covenant_evaluate(
+pub fn covenant_evaluate(
     code: &[u8],
     spent: &[u64],
     spent_marks: &[u8],
@@ -66,8 +64,7 @@ pub extern "C" fn covenant_evaluate(
 
 // Write: `code` is only read. The records reported are written at the front of `kinds`, `numbers` and `places`, and their keys into the key bytes reported, each
 // once, in the order of the first token that names it. Refusals 1 to 5, 6, 7; a refusal writes nothing.
-#[unsafe(no_mangle)]
-pub extern "C" fn covenant_write(
+pub fn covenant_write(
     code: &[u8],
     kinds: &mut [u8],
     numbers: &mut [u64],
@@ -82,8 +79,7 @@ pub extern "C" fn covenant_write(
 
 // Decode: of what is lent only `code` is written, the bytes reported at its front. There are as many records as kinds.
 // Refusals 10, 9, 7, then 4, 5 or 11; a refusal writes nothing. The third promise is demand 3, of the struct that is given back; the fourth is what 4, 5 and 11 tell.
-#[unsafe(no_mangle)]
-pub extern "C" fn covenant_decode(
+pub fn covenant_decode(
     kinds: &[u8],
     numbers: &[u64],
     places: &[u32],
@@ -99,8 +95,7 @@ pub extern "C" fn covenant_decode(
 }
 
 // Write Script: `code` is only read. The script bytes reported are written at the front of `script`. Refusals 1 to 5, 6, 7; a refusal writes nothing.
-#[unsafe(no_mangle)]
-pub extern "C" fn covenant_write_script(code: &[u8], script: &mut [u8]) -> ScriptAnswer
+pub fn covenant_write_script(code: &[u8], script: &mut [u8]) -> ScriptAnswer
     ensures value { result ≡ script_answer (wrote_script code.now script.old).answer }
     ensures script_after { script.new ≡ (wrote_script code.now script.old).buffer }
 {

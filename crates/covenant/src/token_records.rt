@@ -6,8 +6,7 @@ use records::{TokenRecord, load, store};
 use semantics::MAX_TOKENS;
 
 // Decode over records: `records` and `keys` are only read, and `code` is written as `covenant_decode` writes it. Refusals 10, 9, 7, then 4, 5 or 11.
-#[unsafe(no_mangle)]
-pub extern "C" fn covenant_decode_records(
+pub fn covenant_decode_records(
     records: &[TokenRecord],
     keys: &[u8],
     code: &mut [u8],
@@ -24,8 +23,7 @@ pub extern "C" fn covenant_decode_records(
 }
 
 // Write over records: `code` is only read; the records reported are written at the front of `records`, and their keys as `covenant_write` writes them. Refusals 1 to 5, 6, 7.
-#[unsafe(no_mangle)]
-pub extern "C" fn covenant_write_records(
+pub fn covenant_write_records(
     code: &[u8],
     records: &mut [TokenRecord],
     keys: &mut [u8],

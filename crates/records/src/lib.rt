@@ -43,11 +43,11 @@ pub fn store(records: &mut [TokenRecord], n: usize, kinds: &[u8], numbers: &[u64
 {
     let mut k = 0;
     while k < n {
-        records[k] = TokenRecord {
-            kind: kinds[k],
-            number: numbers[k],
-            place: places[k],
-        };
+        // field by field, so that the bytes between the fields are kept
+        let r = &mut records[k];
+        r.kind = kinds[k];
+        r.number = numbers[k];
+        r.place = places[k];
         k += 1;
     }
 }
