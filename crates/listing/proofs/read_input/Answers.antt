@@ -1,10 +1,10 @@
 -- A read's bytes come after those that were there, and are what the input had next; a full buffer has more bytes than code may have (`same_sheet`).
-use Rattle.std.proofs.Common.{ℕ, ◌≡◌, ◌+◌, ◌-◌, ◌≤◌, List, ◌++◌, length, take, drop, ap, ◌∙◌, sym, append_assoc, arith}
+use Rattle.std.proofs.Common.{ℕ, ◌≡◌, ◌+◌, ◌≤◌, List, ◌++◌, length, take, drop, ap, ◌∙◌, sym, append_assoc, arith, rules}
 use Rattle.std.proofs.Math.Seq.{length-take-le, take-append-add}
 use Rattle.std.proofs.lemmas.List.{take-append-le}
 use Rattle.std.specs.Prelude.{Option, None, Some}
 use Rattle.std.specs.Io.KnownBytes.{Consumes}
-use borrow.Rule.Slice.PartMut.{put_mid, same_len_mid}
+use borrow.Rule.Slice.PartMut.{put_mid}
 use Rattle.sheet.proofs.Laws.{same_sheet}
 use Rattle.listing.proofs.read_input.Goals as goal
 
@@ -22,14 +22,12 @@ taken_more (Some xs) (Some ys) (Some zs) bytes more a b = rw (a, b) (sym (append
 
 pub loop-n-preserved : goal.loop-n-preserved
 loop-n-preserved g c =
-    let k = length c.loop-n.code - c.loop-n.n in
-    let same = same_len_mid c.loop-n.n k c.loop-n.code c.read.new.buf c.read.auto.buf in
-    let most : c.in_ok-more.more ≤ length c.read.new.buf = c.in_ok-more.ensures.bound.0 in
+    let read = c.in_ok-more in
     record {
-      same_length = same ∙ c.loop-n.invariant.same_length;
-      inside = rw same (omega arith);
-      taken = rw (front c.loop-n.code c.read.new.buf c.loop-n.n k c.in_ok-more.more c.loop-n.invariant.inside most)
-          (taken_more _ _ _ _ _ c.loop-n.invariant.taken c.in_ok-more.ensures.bytes.0);
+      same_length = search rules;
+      inside = search rules;
+      taken = rw (front c.loop-n.code c.read.new.buf c.loop-n.n _ read.more c.loop-n.invariant.inside read.ensures.bound.0)
+          (taken_more _ _ _ _ _ c.loop-n.invariant.taken read.ensures.bytes.0);
     }
 
 pub returns-clause-read : goal.returns-clause-read
