@@ -1,13 +1,7 @@
 -- The nine bytes of a `Const`, and the bytes before and after them.
-use Prim.Native.Nat.{ℕ, ◌+◌, ◌≤◌, ◌<◌}
-use mathlib.Core.Path.{◌≡◌}
-use mathlib.Core.List.{List, ◌++◌, append_assoc}
-use native.Mathlib.Numerals.{add-one}
-use native.Mathlib.Omega.{arith}
+use Rattle.std.proofs.Common.{ℕ, ◌≡◌, ◌+◌, ◌≤◌, ◌<◌, ℤ, List, ◌++◌, length, get_or, take, drop, set, append_assoc, add-one, arith}
+use Rattle.std.proofs.Math.Seq.{length-take-le, set_at, take-suc}
 use borrow.Author.Tests.{le-leb, lt-leb}
-use lib.IntN.{ℤ}
-use lib.ListN.{length, get_or, take, drop, set}
-use lib.Seq.{length-take-le, set_at, take-suc}
 use Rattle.slices.specs.Bytes.{little_endian}
 use Rattle.word64.specs.Bits.{bits_of}
 use Rattle.examples.specs.Const.{with_const}

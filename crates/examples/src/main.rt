@@ -4,9 +4,9 @@
 ghost use Rattle.std.specs.Prelude.{◌≡◌};
 ghost use Rattle.examples.specs.Const.{with_const};
 
-use libc::STDOUT_FILENO;
 use semantics::{Checked, Decoded, Evaluated, Refusal, Verdict, Written};
 use slices::write_le64;
+use std::io;
 use word64::bits;
 
 const LEAST: i64 = -0x7fff_ffff_ffff_ffff - 1;
@@ -23,171 +23,163 @@ const MOD: u8 = 26;
 // How wide the column of what is asked is.
 const ASKED: usize = 68;
 
+// Room for any code that Decode may answer.
+const ROOM: usize = 65536;
+
 // ---- what a call answers, in words
 
-fn text(bytes: &[u8]) {
-    io::write_all(STDOUT_FILENO, bytes);
+fn text(rt: &impl Print, words: &str) -> io::Result<()> {
+    rt.print(words)
 }
 
-fn number(n: u64) {
-    io::print_decimal(STDOUT_FILENO, n);
+fn number(rt: &impl Print, n: u64) -> io::Result<()> {
+    rt.print(n)
 }
 
 // Words, and a number after them.
-fn told(words: &[u8], n: u64) {
-    text(words);
-    number(n);
+fn told(rt: &impl Print, words: &str, n: u64) -> io::Result<()> {
+    text(rt, words)?;
+    number(rt, n)
 }
 
 // 64 bits as a signed number
-fn signed(bits: u64) {
+fn signed(rt: &impl Print, bits: u64) -> io::Result<()> {
     if bits < 0x8000_0000_0000_0000 {
-        number(bits);
+        number(rt, bits)
     } else {
-        text(b"-");
-        number(!bits + 1);
+        told(rt, "-", !bits + 1)
     }
 }
 
 // 27 to 31 name both operands, 32 its one.
-fn operands(refusal: u32, first: u64, second: u64) {
+fn operands(rt: &impl Print, refusal: u32, first: u64, second: u64) -> io::Result<()> {
     if refusal < 27 {
-        return;
+        return Ok(());
     }
     if refusal < 33 {
-        text(b": ");
-        signed(first);
+        text(rt, ": ")?;
+        signed(rt, first)?;
     }
     if refusal < 32 {
-        text(b", ");
-        signed(second);
+        text(rt, ", ")?;
+        signed(rt, second)?;
     }
+    Ok(())
 }
 
-fn refused(r: Refusal) {
+fn refused(rt: &impl Print, r: Refusal) -> io::Result<()> {
     let n = refusals::number_of(r);
-    told(b"refusal ", n.number as u64);
-    operands(n.number, n.first, n.second);
-    text(b"\n");
+    told(rt, "refusal ", n.number as u64)?;
+    operands(rt, n.number, n.first, n.second)?;
+    text(rt, "\n")
 }
 
-fn checked(answer: Checked) {
+fn checked(rt: &impl Print, answer: Checked) -> io::Result<()> {
     match answer {
         Checked::Passed { tokens, oracles } => {
-            told(b"0, with ", tokens as u64);
-            told(b" tokens and ", oracles as u64);
-            text(b" oracle terminals\n");
+            told(rt, "0, with ", tokens as u64)?;
+            told(rt, " tokens and ", oracles as u64)?;
+            text(rt, " oracle terminals\n")
         }
-        Checked::Refused(r) => refused(r),
+        Checked::Refused(r) => refused(rt, r),
     }
 }
 
-fn evaluated(answer: Evaluated) {
-    let verdict = answer.verdict;
-    match verdict {
-        Verdict::Is(holds) => {
-            if holds {
-                text(b"0, true\n");
-            } else {
-                text(b"0, false\n");
-            }
-        }
-        Verdict::Refused(r) => refused(r),
+fn evaluated(rt: &impl Print, answer: Evaluated) -> io::Result<()> {
+    match answer.verdict {
+        Verdict::Is(true) => text(rt, "0, true\n"),
+        Verdict::Is(false) => text(rt, "0, false\n"),
+        Verdict::Refused(r) => refused(rt, r),
     }
 }
 
 // The source's name of a kind of token, for those that are shown; else its number.
-fn kind_name(kind: u8) {
+fn kind_name(rt: &impl Print, kind: u8) -> io::Result<()> {
     match kind {
-        4 => text(b"CurrInp"),
-        7 => text(b"ScriptNumToLe64"),
-        8 => text(b"Le64ToScriptNum"),
-        9 => text(b"Mul64"),
-        14 => text(b"Equal"),
-        15 => text(b"Verify"),
-        23 => text(b"OutValue"),
-        _ => number(kind as u64),
+        4 => text(rt, "CurrInp"),
+        7 => text(rt, "ScriptNumToLe64"),
+        8 => text(rt, "Le64ToScriptNum"),
+        9 => text(rt, "Mul64"),
+        14 => text(rt, "Equal"),
+        15 => text(rt, "Verify"),
+        23 => text(rt, "OutValue"),
+        _ => number(rt, kind as u64),
     }
 }
 
 // A token, after a comma where it is not the first; a Num and a Bytes8 carry a number.
-fn token(i: usize, kind: u8, carried: u64) {
+fn token(rt: &impl Print, i: usize, kind: u8, carried: u64) -> io::Result<()> {
     if i != 0 {
-        text(b",");
+        text(rt, ",")?;
     }
     match kind {
-        1 => told(b" Num ", carried),
-        2 => told(b" Bytes8 ", carried),
+        1 => told(rt, " Num ", carried),
+        2 => told(rt, " Bytes8 ", carried),
         _ => {
-            text(b" ");
-            kind_name(kind);
+            text(rt, " ")?;
+            kind_name(rt, kind)
         }
     }
 }
 
-fn tokens(kinds: &[u8], numbers: &[u64], records: usize) {
-    let mut i = 0;
-    while i < records {
-        if i < kinds.len() {
-            if i < numbers.len() {
-                token(i, kinds[i], numbers[i]);
-            }
-        }
-        i += 1;
+fn tokens(rt: &impl Print, kinds: &[u8], numbers: &[u64], records: usize) -> io::Result<()> {
+    for (i, (kind, carried)) in kinds.iter().zip(numbers).take(records).enumerate() {
+        token(rt, i, *kind, *carried)?;
     }
+    Ok(())
 }
 
 // The place of a Bytes32.
-fn key_place(kind: u8, place: u32) {
+fn key_place(rt: &impl Print, kind: u8, place: u32) -> io::Result<()> {
     if kind == 3 {
-        told(b" ", place as u64);
+        told(rt, " ", place as u64)?;
     }
+    Ok(())
 }
 
-fn written(answer: Written, kinds: &[u8], numbers: &[u64]) {
+fn written(rt: &impl Print, answer: Written, kinds: &[u8], numbers: &[u64]) -> io::Result<()> {
     match answer {
-        Written::Records { records, key_bytes } => {
-            text(b"0,");
-            tokens(kinds, numbers, records);
-            text(b"\n");
+        Written::Records {
+            records,
+            key_bytes: _,
+        } => {
+            text(rt, "0,")?;
+            tokens(rt, kinds, numbers, records)?;
+            text(rt, "\n")
         }
-        Written::Refused(r) => refused(r),
+        Written::Refused(r) => refused(rt, r),
     }
 }
 
 // The first command of a condition is on its left side.
-fn decoded(answer: Decoded, first: u8) {
+fn decoded(rt: &impl Print, answer: Decoded, first: u8) -> io::Result<()> {
     match answer {
         Decoded::Code { bytes, start } => {
-            told(b"0, position ", start as u64);
-            told(b", code of ", bytes as u64);
-            told(b" bytes that begins with ", first as u64);
-            text(b"\n");
+            told(rt, "0, position ", start as u64)?;
+            told(rt, ", code of ", bytes as u64)?;
+            told(rt, " bytes that begins with ", first as u64)?;
+            text(rt, "\n")
         }
-        Decoded::Refused(r) => refused(r),
+        Decoded::Refused(r) => refused(rt, r),
     }
 }
 
 // ---- the calls; `asked` is what stands before the answer
 
 // What is asked, and blanks up to where the answers stand.
-fn column(asked: &[u8]) {
-    let blank = [b' '; ASKED];
-    text(asked);
-    if asked.len() <= ASKED {
-        text(&blank[..ASKED - asked.len()]);
-    }
+fn column(rt: &impl Print, asked: &str) -> io::Result<()> {
+    print!(rt; "{asked:<ASKED$}")
 }
 
-fn check(asked: &[u8], code: &[u8]) {
-    column(asked);
-    checked(condition::check(code));
+fn check(rt: &impl Print, asked: &str, code: &[u8]) -> io::Result<()> {
+    column(rt, asked)?;
+    checked(rt, condition::check(code))
 }
 
 // Two inputs, of explicit amounts 2^63 and 7, without issuances, and no outputs; the coins come in at `input`.
-fn evaluate(asked: &[u8], code: &[u8], input: u64) {
-    column(asked);
-    evaluated(evaluation::evaluate(
+fn evaluate(rt: &impl Print, asked: &str, code: &[u8], input: u64) -> io::Result<()> {
+    column(rt, asked)?;
+    let answer = evaluation::evaluate(
         code,
         &[0x8000_0000_0000_0000, 7],
         &[1, 1],
@@ -201,19 +193,20 @@ fn evaluate(asked: &[u8], code: &[u8], input: u64) {
         &[],
         &[],
         &mut [],
-    ));
+    );
+    evaluated(rt, answer)
 }
 
 // What the host is to verify.
-fn check_listed(time: u8, price: u8) {
-    column(b"      time and price of its check");
-    number(time as u64);
-    told(b", ", price as u64);
-    text(b"\n");
+fn check_listed(rt: &impl Print, time: u8, price: u8) -> io::Result<()> {
+    column(rt, "      time and price of its check")?;
+    number(rt, time as u64)?;
+    told(rt, ", ", price as u64)?;
+    text(rt, "\n")
 }
 
 // The price of the oracle with the key 4, 5, .. 35 is at least 9, from time 5 on; with a quote of 9 for a time.
-fn evaluate_quote(asked: &[u8], time: u8) {
+fn evaluate_quote(rt: &impl Print, asked: &str, time: u8) -> io::Result<()> {
     let code =
         b"\x20\x04\x05\x06\x07\x08\x09\x0a\x0b\x0c\x0d\x0e\x0f\x10\x11\x12\x13\x14\x15\x16\x17\x18\x19\x1a\x1b\x1c\x1d\x1e\x1f\x20\x21\x22\x23\x05\x00\x00\x00\x00\x00\x00\x00\x10\x09\x00\x00\x00\x00\x00\x00\x00\x34";
     let mut witness = [0u8; 80];
@@ -236,38 +229,34 @@ fn evaluate_quote(asked: &[u8], time: u8) {
         &mut checks,
     );
     let listed = answer.checks;
-    column(asked);
-    evaluated(answer);
+    column(rt, asked)?;
+    evaluated(rt, answer)?;
     if listed == 1 {
-        check_listed(checks[32], checks[40]);
+        check_listed(rt, checks[32], checks[40])?;
     }
+    Ok(())
 }
 
 // The token form, of conditions without keys.
-fn write(asked: &[u8], code: &[u8]) {
-    column(asked);
+fn write(rt: &impl Print, asked: &str, code: &[u8]) -> io::Result<()> {
+    column(rt, asked)?;
     let mut kinds = [0u8; 32];
     let mut numbers = [0u64; 32];
     let mut places = [0u32; 32];
     let answer = writer::write(code, &mut kinds, &mut numbers, &mut places, &mut []);
-    written(answer, &kinds, &numbers);
+    written(rt, answer, &kinds, &numbers)
 }
 
 // The places of the records that name a key.
-fn key_places(kinds: &[u8], places: &[u32], records: usize) {
-    let mut i = 0;
-    while i < records {
-        if i < kinds.len() {
-            if i < places.len() {
-                key_place(kinds[i], places[i]);
-            }
-        }
-        i += 1;
+fn key_places(rt: &impl Print, kinds: &[u8], places: &[u32], records: usize) -> io::Result<()> {
+    for (kind, place) in kinds.iter().zip(places).take(records) {
+        key_place(rt, *kind, *place)?;
     }
+    Ok(())
 }
 
 // What stands of the keys of three oracle terminals; each key is 31 zeros and a last byte.
-fn write_keys(asked: &[u8], first: u8, second: u8, third: u8) {
+fn write_keys(rt: &impl Print, asked: &str, first: u8, second: u8, third: u8) -> io::Result<()> {
     let mut code = [0u8; 135];
     code[0] = 32;
     code[32] = first;
@@ -284,26 +273,26 @@ fn write_keys(asked: &[u8], first: u8, second: u8, third: u8) {
     let mut places = [0u32; 48];
     let mut keys = [0u8; 96];
     let answer = writer::write(&code, &mut kinds, &mut numbers, &mut places, &mut keys);
-    column(asked);
+    column(rt, asked)?;
     match answer {
         Written::Records { records, key_bytes } => {
-            told(b"0, with ", key_bytes as u64);
-            text(b" key bytes; places");
-            key_places(&kinds, &places, records);
-            text(b"\n");
+            told(rt, "0, with ", key_bytes as u64)?;
+            text(rt, " key bytes; places")?;
+            key_places(rt, &kinds, &places, records)?;
+            text(rt, "\n")
         }
-        Written::Refused(r) => refused(r),
+        Written::Refused(r) => refused(rt, r),
     }
 }
 
 // Up to 24 tokens; each that carries a key carries 4, 5, .. 35.
-fn decode(asked: &[u8], kinds: &[u8], numbers: &[u64]) {
+fn decode(rt: &impl Print, asked: &str, kinds: &[u8], numbers: &[u64]) -> io::Result<()> {
     let key =
         b"\x04\x05\x06\x07\x08\x09\x0a\x0b\x0c\x0d\x0e\x0f\x10\x11\x12\x13\x14\x15\x16\x17\x18\x19\x1a\x1b\x1c\x1d\x1e\x1f\x20\x21\x22\x23";
-    column(asked);
-    let mut code = io::large_buffer();
+    column(rt, asked)?;
+    let mut code = [0u8; ROOM];
     let answer = decoder::decode(kinds, numbers, &[0; 24], key, &mut code);
-    decoded(answer, code[0]);
+    decoded(rt, answer, code[0])
 }
 
 // ---- codes
@@ -321,189 +310,217 @@ fn constant(code: &mut [u8], at: usize, number: i64)
 }
 
 // x, y, the command of a binary operation, z, `Eq`
-fn binary(asked: &[u8], x: i64, y: i64, command: u8, z: i64) {
+fn binary(rt: &impl Print, asked: &str, x: i64, y: i64, command: u8, z: i64) -> io::Result<()> {
     let mut code = [0u8; 29];
     constant(&mut code, 0, x);
     constant(&mut code, 9, y);
     code[18] = command;
     constant(&mut code, 19, z);
     code[28] = 48;
-    evaluate(asked, &code, 0);
+    evaluate(rt, asked, &code, 0)
 }
 
 // x, `Negate`, y, `Eq`
-fn negated(asked: &[u8], x: i64, y: i64) {
+fn negated(rt: &impl Print, asked: &str, x: i64, y: i64) -> io::Result<()> {
     let mut code = [0u8; 20];
     constant(&mut code, 0, x);
     code[9] = 31;
     constant(&mut code, 10, y);
     code[19] = 48;
-    evaluate(asked, &code, 0);
+    evaluate(rt, asked, &code, 0)
 }
 
 // ---- the examples
 
-fn five_is_five() {
+fn five_is_five(rt: &impl Print) -> io::Result<()> {
     let code = b"\x10\x05\x00\x00\x00\x00\x00\x00\x00\x10\x05\x00\x00\x00\x00\x00\x00\x00\x30";
-    check(b" 1  Check: 5 Eq 5", code);
-    evaluate(b"    Evaluate: 5 Eq 5", code, 0);
-    write(b"    Write: 5 Eq 5", code);
+    check(rt, " 1  Check: 5 Eq 5", code)?;
+    evaluate(rt, "    Evaluate: 5 Eq 5", code, 0)?;
+    write(rt, "    Write: 5 Eq 5", code)
 }
 
-fn division() {
-    binary(b" 2  Evaluate: -7 Div 2 Eq -4", -7, 2, DIV, -4);
-    binary(b"    Evaluate: -7 Mod 2 Eq 1", -7, 2, MOD, 1);
-    binary(b" 3  Evaluate: 7 Div -2 Eq -3", 7, -2, DIV, -3);
-    binary(b"    Evaluate: 7 Mod -2 Eq 1", 7, -2, MOD, 1);
-    binary(b" 4  Evaluate: -7 Div -2 Eq 4", -7, -2, DIV, 4);
-    binary(b"    Evaluate: -7 Mod -2 Eq 1", -7, -2, MOD, 1);
-    binary(b" 5  Evaluate: -2^63 Div -1 Eq 0", LEAST, -1, DIV, 0);
-    binary(b"    Evaluate: -2^63 Mod -1 Eq 0", LEAST, -1, MOD, 0);
-    binary(b"    Evaluate: -2^63 Div 0 Eq 0", LEAST, 0, DIV, 0);
-    binary(b"    Evaluate: -2^63 Mod 0 Eq 0", LEAST, 0, MOD, 0);
+fn division(rt: &impl Print) -> io::Result<()> {
+    binary(rt, " 2  Evaluate: -7 Div 2 Eq -4", -7, 2, DIV, -4)?;
+    binary(rt, "    Evaluate: -7 Mod 2 Eq 1", -7, 2, MOD, 1)?;
+    binary(rt, " 3  Evaluate: 7 Div -2 Eq -3", 7, -2, DIV, -3)?;
+    binary(rt, "    Evaluate: 7 Mod -2 Eq 1", 7, -2, MOD, 1)?;
+    binary(rt, " 4  Evaluate: -7 Div -2 Eq 4", -7, -2, DIV, 4)?;
+    binary(rt, "    Evaluate: -7 Mod -2 Eq 1", -7, -2, MOD, 1)?;
+    binary(rt, " 5  Evaluate: -2^63 Div -1 Eq 0", LEAST, -1, DIV, 0)?;
+    binary(rt, "    Evaluate: -2^63 Mod -1 Eq 0", LEAST, -1, MOD, 0)?;
+    binary(rt, "    Evaluate: -2^63 Div 0 Eq 0", LEAST, 0, DIV, 0)?;
+    binary(rt, "    Evaluate: -2^63 Mod 0 Eq 0", LEAST, 0, MOD, 0)
 }
 
-fn limits() {
-    binary(b" 6  Evaluate: 2^63 - 1 Add 1 Eq 0", GREATEST, 1, ADD, 0);
-    negated(b" 7  Evaluate: Negate -2^63 Eq 0", LEAST, 0);
+fn limits(rt: &impl Print) -> io::Result<()> {
+    binary(rt, " 6  Evaluate: 2^63 - 1 Add 1 Eq 0", GREATEST, 1, ADD, 0)?;
+    negated(rt, " 7  Evaluate: Negate -2^63 Eq 0", LEAST, 0)?;
     negated(
-        b"    Evaluate: Negate -2^63 + 1 Eq 2^63 - 1",
+        rt,
+        "    Evaluate: Negate -2^63 + 1 Eq 2^63 - 1",
         LEAST + 1,
         GREATEST,
-    );
+    )?;
     let code = b"\x11\x10\x00\x00\x00\x00\x00\x00\x00\x80\x30";
-    evaluate(b" 8  Evaluate: CurrInputIdx Eq -2^63", code, 0);
+    evaluate(rt, " 8  Evaluate: CurrInputIdx Eq -2^63", code, 0)
 }
 
-fn tails() {
+fn tails(rt: &impl Print) -> io::Result<()> {
     decode(
-        b" 9  Decode: Swap, Bytes8, Bytes8, Equal",
+        rt,
+        " 9  Decode: Swap, Bytes8, Bytes8, Equal",
         &[35, 2, 2, 14],
         &[0, 5, 5, 0],
-    );
-    decode(b"10  Decode: no tokens", &[], &[]);
-    decode(b"    Decode: Equal", &[14], &[0]);
+    )?;
+    decode(rt, "10  Decode: no tokens", &[], &[])?;
+    decode(rt, "    Decode: Equal", &[14], &[0])?;
     decode(
-        b"11  Decode: CurrInp, InpValue, Num 1, Equal, Verify, Bytes8, Equal",
+        rt,
+        "11  Decode: CurrInp, InpValue, Num 1, Equal, Verify, Bytes8, Equal",
         &[4, 22, 1, 14, 15, 2, 14],
         &[0, 0, 1, 0, 0, 5, 0],
-    );
+    )
 }
 
 // Each terminal has the key 4, 5, .. 35 and the time 5.
-fn oracle_rule() {
+fn oracle_rule(rt: &impl Print) -> io::Result<()> {
     let later =
         b"\x10\x05\x00\x00\x00\x00\x00\x00\x00\x20\x04\x05\x06\x07\x08\x09\x0a\x0b\x0c\x0d\x0e\x0f\x10\x11\x12\x13\x14\x15\x16\x17\x18\x19\x1a\x1b\x1c\x1d\x1e\x1f\x20\x21\x22\x23\x05\x00\x00\x00\x00\x00\x00\x00\x16\x10\x09\x00\x00\x00\x00\x00\x00\x00\x30";
-    check(b"12  Check: Const + PriceOracle1 Eq Const", later);
+    check(rt, "12  Check: Const + PriceOracle1 Eq Const", later)?;
     let first =
         b"\x21\x04\x05\x06\x07\x08\x09\x0a\x0b\x0c\x0d\x0e\x0f\x10\x11\x12\x13\x14\x15\x16\x17\x18\x19\x1a\x1b\x1c\x1d\x1e\x1f\x20\x21\x22\x23\x05\x00\x00\x00\x00\x00\x00\x00\x20\x04\x05\x06\x07\x08\x09\x0a\x0b\x0c\x0d\x0e\x0f\x10\x11\x12\x13\x14\x15\x16\x17\x18\x19\x1a\x1b\x1c\x1d\x1e\x1f\x20\x21\x22\x23\x05\x00\x00\x00\x00\x00\x00\x00\x30";
-    check(b"    Check: PriceOracle1W Eq PriceOracle1", first);
+    check(rt, "    Check: PriceOracle1W Eq PriceOracle1", first)
 }
 
 // Not one of the thirteen: two such conditions from their tokens, and tokens that are none's (R-2). Constants and times are 0, and Add has its Num 1.
-fn oracle_rule_decoded() {
+fn oracle_rule_decoded(rt: &impl Print) -> io::Result<()> {
     let mut numbers = [0u64; 24];
     numbers[12] = 1;
     decode(
-        b"    Decode: the tokens of Const + PriceOracle1 Eq Const",
+        rt,
+        "    Decode: the tokens of Const + PriceOracle1 Eq Const",
         b"\x02\x19\x1a\x02\x1c\x0f\x20\x21\x03\x22\x1b\x0b\x01\x0e\x0f\x02\x0e",
         &numbers,
-    );
+    )?;
     decode(
-        b"    Decode: the tokens of PriceOracle1W Eq PriceOracle1",
+        rt,
+        "    Decode: the tokens of PriceOracle1W Eq PriceOracle1",
         b"\x1a\x19\x1a\x02\x1c\x0f\x20\x21\x03\x22\x1b\x1b\x23\x19\x1a\x02\x1c\x0f\x20\x21\x03\x22\x1b\x0e",
         &numbers,
-    );
+    )?;
     decode(
-        b"    Decode: the same without the last one, Equal",
+        rt,
+        "    Decode: the same without the last one, Equal",
         b"\x1a\x19\x1a\x02\x1c\x0f\x20\x21\x03\x22\x1b\x1b\x23\x19\x1a\x02\x1c\x0f\x20\x21\x03\x22\x1b",
         &numbers,
-    );
+    )
 }
 
 // The amount of the input before the current one is 2^63, taken as a signed number.
-fn indexes() {
+fn indexes(rt: &impl Print) -> io::Result<()> {
     let less_one =
         b"\x02\x01\x01\x00\x00\x00\x00\x00\x00\x00\x04\x12\x10\x00\x00\x00\x00\x00\x00\x00\x80\x30";
     evaluate(
-        b"13  Evaluate: Input(CurrIdx - 1) Eq -2^63, at 0",
+        rt,
+        "13  Evaluate: Input(CurrIdx - 1) Eq -2^63, at 0",
         less_one,
         0,
-    );
+    )?;
     evaluate(
-        b"    Evaluate: Input(CurrIdx - 1) Eq -2^63, at 1",
+        rt,
+        "    Evaluate: Input(CurrIdx - 1) Eq -2^63, at 1",
         less_one,
         1,
-    );
+    )
 }
 
 // Not one of the thirteen: an index below 0 on the way to another, and what lies above 2^31 - 1 (R-4). At 0 the first reads the amount of input 1, which is 7.
-fn index_values() {
+fn index_values(rt: &impl Print) -> io::Result<()> {
     let less_one_plus_two =
         b"\x02\x01\x01\x00\x00\x00\x00\x00\x00\x00\x04\x01\x02\x00\x00\x00\x00\x00\x00\x00\x03\x12\x10\x07\x00\x00\x00\x00\x00\x00\x00\x30";
     evaluate(
-        b"    Evaluate: Input(CurrIdx - 1 + 2) Eq 7, at 0",
+        rt,
+        "    Evaluate: Input(CurrIdx - 1 + 2) Eq 7, at 0",
         less_one_plus_two,
         0,
-    );
+    )?;
     let far = b"\x01\x00\x00\x00\x80\x00\x00\x00\x00\x12\x10\x07\x00\x00\x00\x00\x00\x00\x00\x30";
-    evaluate(b"    Evaluate: Input(2^31) Eq 7", far, 0);
+    evaluate(rt, "    Evaluate: Input(2^31) Eq 7", far, 0)?;
     let current = b"\x11\x10\x07\x00\x00\x00\x00\x00\x00\x00\x30";
     evaluate(
-        b"    Evaluate: CurrInputIdx Eq 7, at 2^31",
+        rt,
+        "    Evaluate: CurrInputIdx Eq 7, at 2^31",
         current,
         0x8000_0000,
-    );
+    )
 }
 
 // Not one of the thirteen: the left operand of an index product is made a 64-bit number before the right one is pushed.
-fn index_product() {
+fn index_product(rt: &impl Print) -> io::Result<()> {
     let times_three =
         b"\x02\x01\x03\x00\x00\x00\x00\x00\x00\x00\x05\x13\x10\x05\x00\x00\x00\x00\x00\x00\x00\x30";
-    write(b"    Write: Output(CurrIdx * 3) Eq 5", times_three);
+    write(rt, "    Write: Output(CurrIdx * 3) Eq 5", times_three)
 }
 
 // Not one of the thirteen: keys in the order of the first token that names them, equal ones once (R-5). A key is shown by its last byte.
-fn keys_in_order() {
+fn keys_in_order(rt: &impl Print) -> io::Result<()> {
     write_keys(
-        b"    Write: three oracle terminals with the keys 1, 2, 1",
+        rt,
+        "    Write: three oracle terminals with the keys 1, 2, 1",
         1,
         2,
         1,
-    );
+    )?;
     write_keys(
-        b"    Write: three oracle terminals with the keys 2, 1, 3",
+        rt,
+        "    Write: three oracle terminals with the keys 2, 1, 3",
         2,
         1,
         3,
-    );
+    )?;
     write_keys(
-        b"    Write: three oracle terminals with the keys 1, 1, 1",
+        rt,
+        "    Write: three oracle terminals with the keys 1, 1, 1",
         1,
         1,
         1,
-    );
+    )
 }
 
 // Not one of the thirteen: a quote's time is at least the terminal's, here 5, and is what the check has (R-8).
-fn quotes() {
-    evaluate_quote(b"    Evaluate: PriceOracle1(5) Geq 9, quote of time 4", 4);
-    evaluate_quote(b"    Evaluate: PriceOracle1(5) Geq 9, quote of time 5", 5);
-    evaluate_quote(b"    Evaluate: PriceOracle1(5) Geq 9, quote of time 6", 6);
+fn quotes(rt: &impl Print) -> io::Result<()> {
+    evaluate_quote(
+        rt,
+        "    Evaluate: PriceOracle1(5) Geq 9, quote of time 4",
+        4,
+    )?;
+    evaluate_quote(
+        rt,
+        "    Evaluate: PriceOracle1(5) Geq 9, quote of time 5",
+        5,
+    )?;
+    evaluate_quote(
+        rt,
+        "    Evaluate: PriceOracle1(5) Geq 9, quote of time 6",
+        6,
+    )
 }
 
-fn main() {
-    text(b"no  asked                                                           answered\n");
-    five_is_five();
-    division();
-    limits();
-    tails();
-    oracle_rule();
-    indexes();
-    text(b"\nbeside document 01's thirteen\n");
-    oracle_rule_decoded();
-    index_values();
-    index_product();
-    keys_in_order();
-    quotes();
+fn main(rt: HostRuntime) -> io::Result<()> {
+    text(
+        &rt,
+        "no  asked                                                           answered\n",
+    )?;
+    five_is_five(&rt)?;
+    division(&rt)?;
+    limits(&rt)?;
+    tails(&rt)?;
+    oracle_rule(&rt)?;
+    indexes(&rt)?;
+    text(&rt, "\nbeside document 01's thirteen\n")?;
+    oracle_rule_decoded(&rt)?;
+    index_values(&rt)?;
+    index_product(&rt)?;
+    keys_in_order(&rt)?;
+    quotes(&rt)
 }

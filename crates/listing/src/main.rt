@@ -1,65 +1,79 @@
 // Prints the sheet of the condition code on standard input, which is raw bytes: a line feed at the end is part of the code.
 #![tactic(auto)]
 
-ghost use Rattle.std.specs.Prelude.{◌≡◌, ◌<◌, length};
+ghost use Rattle.std.specs.Prelude.{◌≡◌, ◌<◌, length, OnOk, IfSome};
+ghost use Rattle.std.specs.Io.KnownBytes.{Appends};
 ghost use Rattle.semantics.specs.Code.{max_code};
 ghost use Rattle.sheet.specs.Sheet.{sheet};
-ghost use Rattle.listing.specs.Read.{Read};
+ghost use Rattle.listing.specs.Read.{Read, Taken};
 
-use libc::{STDIN_FILENO, STDOUT_FILENO};
 use semantics::MAX_CODE;
 use sheet::MAX_SHEET;
+use std::io;
+use std::process::ExitCode;
 
 // One byte more than code may have: what is longer has the same sheet, so that no more of it is read.
 const ROOM: usize = MAX_CODE + 1;
 
-// How many bytes were read, or that a read failed.
-#[derive(Clone, Copy)]
-enum Input {
-    Bytes(usize),
-    Failed,
+// Which of the two streams failed, and how.
+#[derive(Drop)]
+enum Failure {
+    Input(io::Error),
+    Output(io::Error),
 }
 
-// Reads until the input ends or the buffer is full.
-fn read_input(code: &mut [u8]) -> Input
+// Reads until the input ends or the buffer is full; how many bytes it read.
+fn read_input<R: io::Read>(input: &mut R, code: &mut [u8]) -> io::Result<usize>
     requires { max_code < length code.old }
-    ensures { Read result code.new }
+    ensures read { Read result code.new }
+    ensures taken { Taken (R.remaining input.old) (R.remaining input.new) result code.new }
 {
     let mut n = 0;
     while n < code.len() {
-        let got = libc::read(STDIN_FILENO, &mut code[n..]);
-        if got < 0 {
-            return Input::Failed;
-        }
-        let more = io::count(got, &code[n..]);
+        let more = input.read(&mut code[n..])?;
         if more == 0 {
-            return Input::Bytes(n);
+            return Ok(n);
         }
         n += more;
     }
-    Input::Bytes(n)
+    Ok(n)
 }
 
-// Writes the sheet of code to standard output. It takes the code so that the contract can say that these bytes are its sheet.
-fn print(code: &[u8], bytes: &[u8])
+// Writes the sheet of code. It takes the code so that the contract can say that these bytes are its sheet.
+fn print<W: io::Write>(out: &mut W, code: &[u8], bytes: &[u8]) -> io::Result<()>
     requires { bytes.now ≡ sheet code.now }
+    ensures { OnOk result (Appends (W.contents out.old) (W.contents out.new) (sheet code.now)) }
 {
-    if !io::write_all(STDOUT_FILENO, bytes) {
-        os::fail(b"standard output");
-    }
+    out.write_all(bytes)
 }
 
-fn list(code: &[u8]) {
-    let mut out = [0; MAX_SHEET];
-    let n = sheet::write_sheet(code, &mut out);
-    print(code, &out[..n]);
+fn list<W: io::Write>(out: &mut W, code: &[u8]) -> io::Result<()>
+    ensures { OnOk result (Appends (W.contents out.old) (W.contents out.new) (sheet code.now)) }
+{
+    let mut bytes = [0; MAX_SHEET];
+    let n = sheet::write_sheet(code, &mut bytes);
+    print(out, code, &bytes[..n])
 }
 
-fn main() {
+// Writes the sheet of all that the input has, however much of it is left unread.
+fn list_input<R: io::Read, W: io::Write>(input: &mut R, out: &mut W) -> Result<(), Failure>
+    ensures { OnOk result (IfSome (R.remaining input.old) (λ code. Appends (W.contents out.old) (W.contents out.new) (sheet code))) }
+{
     let mut code = [0; ROOM];
-    let Input::Bytes(n) = read_input(&mut code) else {
-        os::fail(b"standard input");
-        return;
-    };
-    list(&code[..n]);
+    let n = read_input(input, &mut code).map_err(Failure::Input)?;
+    list(out, &code[..n]).map_err(Failure::Output)
+}
+
+// Says on standard error which stream failed, and how. Where that can't be written either, the exit status alone tells.
+fn failed(rt: &impl Eprint, stream: &str, error: io::Error) -> ExitCode {
+    let _ = eprintln!(rt; "{stream}: {error}");
+    ExitCode::FAILURE
+}
+
+fn main(rt: HostRuntime) -> ExitCode {
+    match list_input(&mut rt.stdin(), &mut rt.stdout()) {
+        Ok(()) => ExitCode::SUCCESS,
+        Err(Failure::Input(error)) => failed(&rt, "standard input", error),
+        Err(Failure::Output(error)) => failed(&rt, "standard output", error),
+    }
 }

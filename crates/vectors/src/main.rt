@@ -2,10 +2,15 @@
 // the first case that differs.
 #![tactic(auto)]
 
+ghost use Rattle.std.specs.Io.{ReadsAtMost};
 ghost use Rattle.vectors.specs.Agreement.{Replayed};
 
+use anyhow::{Context, Result};
 use cases::{between, number};
-use libc::STDOUT_FILENO;
+use std::{fs, io};
+
+// The most bytes that a case may have.
+const ROOM: usize = 65536;
 
 // What came of reading and replaying the next case.
 #[derive(Clone, Copy)]
@@ -28,9 +33,28 @@ fn agrees(call: u8, body: &[u8]) -> bool
     }
 }
 
+// Reads until the buffer is full or the file ends; how many bytes it read.
+fn read_full(file: &mut impl io::Read, bytes: &mut [u8]) -> io::Result<usize>
+    ensures { ReadsAtMost result bytes.new }
+{
+    let mut n = 0;
+    while n < bytes.len() {
+        let more = file.read(&mut bytes[n..])?;
+        if more == 0 {
+            return Ok(n);
+        }
+        n += more;
+    }
+    Ok(n)
+}
+
 // Reads n bytes of the next case, if there is room, and says whether they came.
-fn load(fd: i32, body: &mut [u8], n: usize) -> bool {
-    n <= body.len() && io::read_full(fd, &mut body[0..n]) == n
+fn load(file: &mut impl io::Read, body: &mut [u8], n: usize) -> io::Result<bool> {
+    if body.len() < n {
+        return Ok(false);
+    }
+    let read = read_full(file, &mut body[..n])?;
+    Ok(read == n)
 }
 
 fn replay(body: &[u8], n: usize) -> Outcome {
@@ -47,88 +71,79 @@ fn replay(body: &[u8], n: usize) -> Outcome {
     Outcome::Differs(call)
 }
 
-fn next(fd: i32, body: &mut [u8]) -> Outcome {
+fn next(file: &mut impl io::Read, body: &mut [u8]) -> io::Result<Outcome> {
     let mut head = [0u8; 4];
-    if io::read_full(fd, &mut head) != 4 {
-        return Outcome::End;
+    if read_full(file, &mut head)? != 4 {
+        return Ok(Outcome::End);
     }
     let n = number(&head, 0) as usize;
-    if load(fd, body, n) {
-        return replay(body, n);
+    if load(file, body, n)? {
+        return Ok(replay(body, n));
     }
-    Outcome::End
+    Ok(Outcome::End)
 }
 
-fn name(call: u8) {
+fn name(rt: &impl Print, call: u8) -> io::Result<()> {
     match call {
-        1 => text(b"Check    "),
-        2 => text(b"Evaluate "),
-        3 => text(b"Write    "),
-        4 => text(b"Decode   "),
-        5 => text(b"Script   "),
-        _ => text(b"no call  "),
+        1 => text(rt, "Check    "),
+        2 => text(rt, "Evaluate "),
+        3 => text(rt, "Write    "),
+        4 => text(rt, "Decode   "),
+        5 => text(rt, "Script   "),
+        _ => text(rt, "no call  "),
     }
 }
 
-fn text(bytes: &[u8]) {
-    io::write_all(STDOUT_FILENO, bytes);
+fn text(rt: &impl Print, words: &str) -> io::Result<()> {
+    rt.print(words)
 }
 
-fn counted(call: u8, n: u64) {
-    name(call);
-    io::print_decimal(STDOUT_FILENO, n);
-    text(b" cases agree\n");
+fn counted(rt: &impl Print, call: u8, n: u64) -> io::Result<()> {
+    name(rt, call)?;
+    println!(rt; "{n} cases agree")
 }
 
-fn differs(call: u8, n: u64) {
-    name(call);
-    text(b" case ");
-    io::print_decimal(STDOUT_FILENO, n);
-    text(b" differs\n");
+fn differs(rt: &impl Print, call: u8, n: u64) -> io::Result<()> {
+    name(rt, call)?;
+    println!(rt; " case {n} differs")
 }
 
 fn count(tally: &mut [u64; 6], call: u8) -> u64 {
     let k = call as usize;
     if k < 6 {
-        tally[k] = std::num::wrapping_add_u64(tally[k], 1);
+        tally[k] = tally[k].wrapping_add(1);
         return tally[k];
     }
     0
 }
 
-// Nothing says that a file ends, so the loop counts its turns down.
-fn turns(fd: i32, tally: &mut [u64; 6]) {
-    let mut body = io::large_buffer();
-    let mut left = u64::MAX;
-    while left > 0 {
-        left -= 1;
-        match next(fd, &mut body) {
+// Nothing says that a file ends, so the turns are counted.
+fn turns(rt: &impl Print, file: &mut impl io::Read, tally: &mut [u64; 6]) -> io::Result<()> {
+    let mut body = [0u8; ROOM];
+    for _ in 0..u64::MAX {
+        match next(file, &mut body)? {
             Outcome::Agrees(call) => {
                 count(tally, call);
             }
             Outcome::Differs(call) => {
-                differs(call, count(tally, call));
-                return;
+                return differs(rt, call, count(tally, call));
             }
             Outcome::End => {
-                return;
+                return Ok(());
             }
         }
     }
+    Ok(())
 }
 
-fn main() {
-    let fd = os::open_read(b"cases");
-    if fd < 0 {
-        os::fail(b"cases");
-        return;
-    }
+fn main(rt: HostRuntime) -> Result<()> {
+    let mut file = fs::open(&rt, "cases").context("cases")?;
     let mut tally = [0u64; 6];
-    turns(fd, &mut tally);
-    libc::close(fd);
-    counted(1, tally[1]);
-    counted(2, tally[2]);
-    counted(3, tally[3]);
-    counted(4, tally[4]);
-    counted(5, tally[5]);
+    turns(&rt, &mut file, &mut tally)?;
+    counted(&rt, 1, tally[1])?;
+    counted(&rt, 2, tally[2])?;
+    counted(&rt, 3, tally[3])?;
+    counted(&rt, 4, tally[4])?;
+    counted(&rt, 5, tally[5])?;
+    Ok(())
 }
