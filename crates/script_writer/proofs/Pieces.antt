@@ -86,7 +86,7 @@ by_shape : (s : Shape) (row : ScriptRow) (code : List ℕ) (at : ℕ) → at + s
     → length (bytes_by s row (take (shape_width s) (drop at code))) ≡ length_by s row.count
 by_shape s row code at =
     elim s as (λ s. at + shape_width s ≤ length code → row.count ≤ 7 → length row.bytes ≡ 7
-        → length (bytes_by s row (take (shape_width s) (drop at code))) ≡ length_by s row.count) [
+    → length (bytes_by s row (take (shape_width s) (drop at code))) ≡ length_by s row.count) [
       | Shape.Row ↦ λ h f r. length-take-le row.count row.bytes (omega arith)
       | Shape.Constant ↦ λ h f r. constant_long (bytes_value (take 8 (drop at code)))
       | Shape.Oracle ↦ λ h f r. oracle_long (take 32 (take 40 (drop at code))) (bytes_value (drop 32 (take 40 (drop at code)))) (key_long h)

@@ -10,7 +10,7 @@ loop-k-preserved c =
     let a = c.args in
     let ks = a.kinds.now in let ns = a.numbers.now in let ps = a.places.now in
     let many : l.k < length (records_from ks ns ps) =
-        omega (arith, records_many ks ns ps (l.k + 1) (omega arith) (omega arith) (omega arith)) in
+    omega (arith, records_many ks ns ps (l.k + 1) (omega arith) (omega arith) (omega arith)) in
     record {
       low = omega arith;
       records =

@@ -36,8 +36,8 @@ ask-price-requires c =
     let a = c.args in let l = c.loop-s in let u = c.fetch.new in let s = c.in-Oracle.s in
     let env = env_of a.spent.now a.spent_marks.now a.outputs.now a.output_marks.now a.issued.now a.issued_marks.now a.reissued.now a.reissued_marks.now a.current in
     let paused : Good env a.code.now a.witness.now a.ends.now a.out.now l.out u.vals u.idxs l.w (Next.Oracle s) =
-        fetched_good env a.code.now a.witness.now a.ends.now a.out.now c.requires.0 l.out l.vals l.idxs l.w l.spot l.invariant u.vals u.idxs
-        c.fetch.auto.vals c.fetch.auto.idxs (Next.Oracle s) c.in-Oracle.ensures in
+    fetched_good env a.code.now a.witness.now a.ends.now a.out.now c.requires.0 l.out l.vals l.idxs l.w l.spot l.invariant u.vals u.idxs
+    c.fetch.auto.vals c.fetch.auto.idxs (Next.Oracle s) c.in-Oracle.ensures in
     paused_asks env a.code.now a.witness.now a.ends.now a.out.now c.requires.0 l.out u.vals u.idxs l.w s paused
 
 pub pushed-requires : goal.pushed-requires
@@ -45,8 +45,8 @@ pushed-requires c =
     let a = c.args in let l = c.loop-s in let u = c.fetch.new in let s = c.in-Oracle.s in
     let env = env_of a.spent.now a.spent_marks.now a.outputs.now a.output_marks.now a.issued.now a.issued_marks.now a.reissued.now a.reissued_marks.now a.current in
     let paused : Good env a.code.now a.witness.now a.ends.now a.out.now l.out u.vals u.idxs l.w (Next.Oracle s) =
-        fetched_good env a.code.now a.witness.now a.ends.now a.out.now c.requires.0 l.out l.vals l.idxs l.w l.spot l.invariant u.vals u.idxs
-        c.fetch.auto.vals c.fetch.auto.idxs (Next.Oracle s) c.in-Oracle.ensures in
+    fetched_good env a.code.now a.witness.now a.ends.now a.out.now c.requires.0 l.out l.vals l.idxs l.w l.spot l.invariant u.vals u.idxs
+    c.fetch.auto.vals c.fetch.auto.idxs (Next.Oracle s) c.in-Oracle.ensures in
     let asks = paused_asks env a.code.now a.witness.now a.ends.now a.out.now c.requires.0 l.out u.vals u.idxs l.w s paused in
     (paused_room env a.code.now a.witness.now a.ends.now a.out.now c.requires.0 l.out u.vals u.idxs l.w s paused, omega (arith, asks.operands, c.well_formed))
 
@@ -55,14 +55,14 @@ loop-s-smaller c =
     let a = c.args in let l = c.loop-s in let u = c.fetch.new in let s = c.in-Oracle.s in
     let env = env_of a.spent.now a.spent_marks.now a.outputs.now a.output_marks.now a.issued.now a.issued_marks.now a.reissued.now a.reissued_marks.now a.current in
     let paused : Good env a.code.now a.witness.now a.ends.now a.out.now l.out u.vals u.idxs l.w (Next.Oracle s) =
-        fetched_good env a.code.now a.witness.now a.ends.now a.out.now c.requires.0 l.out l.vals l.idxs l.w l.spot l.invariant u.vals u.idxs
-        c.fetch.auto.vals c.fetch.auto.idxs (Next.Oracle s) c.in-Oracle.ensures in
+    fetched_good env a.code.now a.witness.now a.ends.now a.out.now c.requires.0 l.out l.vals l.idxs l.w l.spot l.invariant u.vals u.idxs
+    c.fetch.auto.vals c.fetch.auto.idxs (Next.Oracle s) c.in-Oracle.ensures in
     omega (
       arith,
       fetched_falls env a.code.now a.witness.now a.ends.now a.out.now c.requires.0 l.out l.vals l.idxs l.w l.spot l.invariant u.vals u.idxs
-      (Next.Oracle s) c.in-Oracle.ensures,
+          (Next.Oracle s) c.in-Oracle.ensures,
       pushed_falls env a.code.now a.witness.now a.ends.now a.out.now c.requires.0 l.out u.vals u.idxs l.w s paused c.ask-price.new.out c.ask-price.result
-      c.ask-price.new.w c.ask-price.ensures c.ask-price.auto.out c.pushed.new.vals c.pushed.auto.vals (Next.Command c.in-On.t) c.in-On.ensures,
+          c.ask-price.new.w c.ask-price.ensures c.ask-price.auto.out c.pushed.new.vals c.pushed.auto.vals (Next.Command c.in-On.t) c.in-On.ensures,
     )
 
 pub loop-s-preserved : goal.loop-s-preserved
@@ -70,8 +70,8 @@ loop-s-preserved c =
     let a = c.args in let l = c.loop-s in let u = c.fetch.new in let s = c.in-Oracle.s in
     let env = env_of a.spent.now a.spent_marks.now a.outputs.now a.output_marks.now a.issued.now a.issued_marks.now a.reissued.now a.reissued_marks.now a.current in
     let paused : Good env a.code.now a.witness.now a.ends.now a.out.now l.out u.vals u.idxs l.w (Next.Oracle s) =
-        fetched_good env a.code.now a.witness.now a.ends.now a.out.now c.requires.0 l.out l.vals l.idxs l.w l.spot l.invariant u.vals u.idxs
-        c.fetch.auto.vals c.fetch.auto.idxs (Next.Oracle s) c.in-Oracle.ensures in
+    fetched_good env a.code.now a.witness.now a.ends.now a.out.now c.requires.0 l.out l.vals l.idxs l.w l.spot l.invariant u.vals u.idxs
+    c.fetch.auto.vals c.fetch.auto.idxs (Next.Oracle s) c.in-Oracle.ensures in
     pushed_good env a.code.now a.witness.now a.ends.now a.out.now c.requires.0 l.out u.vals u.idxs l.w s paused c.ask-price.new.out c.ask-price.result
     c.ask-price.new.w c.ask-price.ensures c.ask-price.auto.out c.pushed.new.vals c.pushed.auto.vals (Next.Command c.in-On.t) c.in-On.ensures
 
@@ -80,8 +80,8 @@ returns-in-Ended-pushed c =
     let a = c.args in let l = c.loop-s in let u = c.fetch.new in let s = c.in-Oracle.s in
     let env = env_of a.spent.now a.spent_marks.now a.outputs.now a.output_marks.now a.issued.now a.issued_marks.now a.reissued.now a.reissued_marks.now a.current in
     let paused : Good env a.code.now a.witness.now a.ends.now a.out.now l.out u.vals u.idxs l.w (Next.Oracle s) =
-        fetched_good env a.code.now a.witness.now a.ends.now a.out.now c.requires.0 l.out l.vals l.idxs l.w l.spot l.invariant u.vals u.idxs
-        c.fetch.auto.vals c.fetch.auto.idxs (Next.Oracle s) c.in-Oracle.ensures in
+    fetched_good env a.code.now a.witness.now a.ends.now a.out.now c.requires.0 l.out l.vals l.idxs l.w l.spot l.invariant u.vals u.idxs
+    c.fetch.auto.vals c.fetch.auto.idxs (Next.Oracle s) c.in-Oracle.ensures in
     pushed_good env a.code.now a.witness.now a.ends.now a.out.now c.requires.0 l.out u.vals u.idxs l.w s paused c.ask-price.new.out c.ask-price.result
     c.ask-price.new.w c.ask-price.ensures c.ask-price.auto.out c.pushed.new.vals c.pushed.auto.vals (Next.Ended c.in-Ended-pushed.verdict) c.in-Ended-pushed.ensures
 
