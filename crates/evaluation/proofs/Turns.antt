@@ -8,7 +8,6 @@ use native.Mathlib.Omega.{arith}
 use lib.IntN.{ℤ}
 use lib.ListN.{length, take, drop}
 use Rattle.semantics.specs.declared.AmountList.{AmountList}
-use Rattle.semantics.specs.declared.Command.{Command}
 use Rattle.semantics.specs.declared.Value.{Value}
 use Rattle.semantics.specs.Code.{command_row}
 use Rattle.semantics.specs.Evaluate.{ends_sound}

@@ -12,7 +12,7 @@ use Rattle.semantics.specs.declared.CmpOp.{CmpOp}
 use Rattle.semantics.specs.declared.IdxOp.{IdxOp}
 use Rattle.semantics.specs.Trees.{Arith, Expr, IdxExpr}
 use Rattle.semantics.specs.Token.{expr_form, idx_form}
-use Rattle.semantics.specs.FromTokens.{Found, Head, IdxHead, and_then, comparison, expr_from_tokens, found, from_tokens, idx_between, idx_from_tokens, idx_operands, lookup_expr, nothing, operands}
+use Rattle.semantics.specs.FromTokens.{Found, Head, IdxHead, and_then, expr_from_tokens, found, from_tokens, idx_between, idx_from_tokens, idx_operands, lookup_expr, nothing, operands}
 use Rattle.semantics.proofs.Find.{Reader, Reads}
 use Rattle.semantics.proofs.FromTokens.{expr_reader, expr_step, idx_reader, idx_step}
 use Rattle.productions.specs.Before.{before}

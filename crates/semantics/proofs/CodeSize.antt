@@ -6,7 +6,7 @@ use mathlib.Core.List.{List}
 use native.Mathlib.Omega.{arith}
 use lib.ListN.{length, length-append}
 use Rattle.slices.proofs.Bytes.{length-little_endian}
-use Rattle.semantics.specs.Code.{code, expr_code, idx_code, max_code, max_tokens}
+use Rattle.semantics.specs.Code.{code, expr_code, idx_code, max_tokens}
 use Rattle.semantics.specs.Token.{Token, expr_form, form, idx_form}
 use Rattle.semantics.specs.Trees.{Arith, Expr, IdxExpr}
 use Rattle.semantics.proofs.Encodable.{Encodable, ExprEncodable}

@@ -16,7 +16,6 @@ use Rattle.semantics.specs.Evaluate.{Lent, evaluated}
 use Rattle.semantics.specs.FromTokens.{Found, found, from_tokens, nothing}
 use Rattle.semantics.specs.Meaning.{CallAccepts, CallUnambiguous, DecodeAccepts, FormAt, HasForm, ListUnambiguous, PassingAt, Sound, Unambiguous}
 use Rattle.semantics.specs.Oracle.{oracle_rule}
-use Rattle.semantics.specs.Parse.{parse}
 use Rattle.semantics.specs.Records.{Records, tokens, unsound}
 use Rattle.semantics.specs.Refusals.{Refusal}
 use Rattle.semantics.specs.Token.{Token, form}

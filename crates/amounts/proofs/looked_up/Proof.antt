@@ -1,10 +1,8 @@
 -- Where a list is asked the index is its bits (`not_negative`), and the list is known in each arm.
 use borrow.Author.Rules.{rules, sfits_of}
-use mathlib.Core.Bool.{false}
 use mathlib.Core.Option.{some}
 use mathlib.Core.Path.{◌≡◌, sym, ap, ◌∙◌}
 use lib.IntN.{ℤ, pos}
-use lib.Signed.{lt_z}
 use mir.Syntax.{w64}
 use mir.Val.{of_z, to_z}
 use mir.Facts.{to_z-of_z}

@@ -1,5 +1,4 @@
 -- The run goes from here where it goes from the start (`Good`); the measure is how much is left of the code.
-use Rattle.std.proofs.Common.{length, ◌≡◌}
 use Rattle.amounts.specs.Lists.{env_of}
 use Rattle.evaluation.specs.declared.run.Next.{Next}
 use Rattle.evaluation.proofs.Turns.{Good, rank}
