@@ -42,4 +42,4 @@ toolchain:
 
 # A folder of crates/ that crates.txt does not list would not be proved.
 listed:
-	@for d in crates/*/; do n=$$(basename "$$d"); grep -q "^$$n *:" crates.txt || { echo "crates/$$n is not listed in crates.txt" >&2; exit 1; }; done
+	@for d in crates/*/; do n=$$(basename "$$d"); grep -q "^$$n[ :]" crates.txt || { echo "crates/$$n is not listed in crates.txt" >&2; exit 1; }; done
