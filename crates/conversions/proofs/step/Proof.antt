@@ -44,7 +44,7 @@ step_spec =
     (λ c.
     let n = c.before.before.before in
     let s = begin n in
-    too_large s.args.code.now s.args.at n.next-here.result n.next-here.ensures c.in-IdxConst.is c.read_le64.result c.read_le64.ensures.value (omega (arith, c.if-read_le64-ge-NUM_LIMIT.true)))
+    too_large s.args.code.now s.args.at n.next-here.result n.next-here.ensures c.in-IdxConst.is c.read_le64.result c.read_le64.ensures.value (omega arith))
     (λ c κs. let s = begin c.before.before.before.before in (s.requires.1.few, s.requires.1.indexes_fit))
     (λ c. search rules)
     (λ c κs. let s = begin c.before.before in (s.requires.1.few, s.requires.1.indexes_fit))
@@ -70,7 +70,7 @@ step_spec =
     let s = begin n in
     let told = r.in-IdxConst.is in
     on n Command.IdxConst told _
-    (is_narrow s.args.code.now s.args.at n.next-here.result n.next-here.ensures told r.read_le64.result r.read_le64.ensures.value (omega (arith, c.if-read_le64-ge-NUM_LIMIT.false)))
+    (is_narrow s.args.code.now s.args.at n.next-here.result n.next-here.ensures told r.read_le64.result r.read_le64.ensures.value (omega arith))
     (ended s.args.waiting.now s.args.indexes s.args.marks.now s.args.count _ s.requires.1 _ c.push.ensures))
     (λ c. search rules)
     (λ c.

@@ -12,12 +12,12 @@ unfolding rows bytes_value
 value_width_spec =
     tie.close
     (tie.spec
-    (λ c. width_run 1 0 1 _ refl (omega arith) c.if-row-lt-LOOKUPS.true)
-    (λ c. width_run 4 1 2 _ refl c.if-row-lt-LOOKUPS.false c.if-row-lt-ISSUES.true)
-    (λ c. width_run 8 3 2 _ refl c.if-row-lt-ISSUES.false c.if-row-lt-UNARIES.true)
-    (λ c. width_run 1 5 1 _ refl c.if-row-lt-UNARIES.false c.if-row-lt-NEGATE.true)
-    (λ c. width_run 4 6 4 _ refl c.if-row-lt-NEGATE.false c.if-row-lt-DIV.true)
-    (λ c. width_run 5 10 2 _ refl c.if-row-lt-DIV.false c.if-row-lt-BIT_OPERATIONS.true)
-    (λ c. width_run 1 12 3 _ refl c.if-row-lt-BIT_OPERATIONS.false c.if-row-lt-ORACLES.true)
-    (λ c. width_run 10 15 1 _ refl c.if-row-lt-ORACLES.false c.if-row-lt-PRICE_ORACLE_1W.true)
-    (λ c. width_run 13 16 1 _ refl c.if-row-lt-PRICE_ORACLE_1W.false c.requires))
+    (λ c. width_run 1 0 1 c.args.row refl (omega arith) (omega arith))
+    (λ c. width_run 4 1 2 c.args.row refl (omega arith) (omega arith))
+    (λ c. width_run 8 3 2 c.args.row refl (omega arith) (omega arith))
+    (λ c. width_run 1 5 1 c.args.row refl (omega arith) (omega arith))
+    (λ c. width_run 4 6 4 c.args.row refl (omega arith) (omega arith))
+    (λ c. width_run 5 10 2 c.args.row refl (omega arith) (omega arith))
+    (λ c. width_run 1 12 3 c.args.row refl (omega arith) (omega arith))
+    (λ c. width_run 10 15 1 c.args.row refl (omega arith) (omega arith))
+    (λ c. width_run 13 16 1 c.args.row refl (omega arith) (omega arith)))

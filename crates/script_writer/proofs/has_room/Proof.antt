@@ -9,6 +9,6 @@ pub has_room_spec : {M : Type 1} → statement M
 has_room_spec =
     tie.close
     (tie.spec
-    (λ c. let s = c.before.before.before in sym (le-leb _ s.args.room (omega (arith, s.requires.1, c.if-room-ge-MAX_SCRIPT.true))))
+    (λ c. let s = c.before.before.before in sym (le-leb _ s.args.room (omega (arith, s.requires.1))))
     (λ c κs. c.requires)
     (λ c. rw (← c.script_length.ensures)))
