@@ -103,7 +103,7 @@ def refusals():
     found = {}
     for log in ("ci.log", "more.log"):
         for line in open(os.path.join(ROOT, "target", log), errors="replace"):
-            m = re.match(r"rt: must-fail (\w+)/([\w.-]+)\.edit: refused[^:]*: (.*)", line)
+            m = re.match(r"rt: must-fail (\w+)/([\w.-]+)\.edit: refused, as it must be(?: \(.*?\))?: (.*)", line)
             if m:
                 found[m[1], m[2]] = m[3].strip()
     return found
@@ -143,6 +143,8 @@ def main():
     with open(PAGE, "w") as f:
         f.write(above + HEAD + "\n".join(rows) + "\n")
     print("met at a need: " + (", ".join(at_needs) or "none"))
+    by_name = [n for log in ("ci.log", "more.log") for n in re.findall(r"^rt: must-fail (\S+): .*\(only because", open(os.path.join(ROOT, "target", log), errors="replace").read(), re.M)]
+    print("refused for a name alone: " + (", ".join(by_name) or "none"))
 
 
 if __name__ == "__main__":
