@@ -2,47 +2,32 @@
 use borrow.Author.Rules.{rules, sfits_of}
 use mir.Facts.{to_z-of_z}
 use borrow.Author.Tests.{eq-eqb, le-ltb, lt-ltb, ne_eqb}
-use lib.ListN.{get_or-eq_default}
+use native.Mathlib.Omega.{arith}
+use lib.ListN.{length, get_or, get_or-eq_default}
 use Rattle.semantics.specs.Evaluation.{amount}
 use Rattle.amounts.proofs.amount_at.Statement.{statement}
 use Rattle.amounts.proofs.amount_at.Tie as tie
 
-returns : tie.Need-returns-then-numbers-k
-unfolding amount
-returns c = rw (le-ltb _ _ c.if-numbers-k.true, c.outside.ensures)
-
-returns-2 : tie.Need-returns-then-marks-k
-unfolding amount
-returns-2 c =
-    let a = c.args in
-    rw (lt-ltb _ _ c.if-numbers-k.false, get_or-eq_default a.marks.now 0 c.if-marks-k.true, c.hidden.ensures)
-
-returns-3 : tie.Need-returns-then-marks-k-ne1
-unfolding amount
-returns-3 c = rw (lt-ltb _ _ c.if-numbers-k.false, ne_eqb _ _ c.if-marks-k-ne1.true, c.hidden-then-marks-k-ne1.ensures)
-
-returns-4 : tie.Need-returns
-unfolding amount
-returns-4 c =
-    rw (
-      lt-ltb _ _ c.if-numbers-k.false,
-      eq-eqb _ _ c.if-marks-k-ne1.false,
-      to_z-of_z (sfits_of c.signed.type_inv),
-      c.signed.ensures,
-    )
-
 pub amount_at_spec : {M : Type 1} → statement M
+unfolding amount
 amount_at_spec =
     tie.close
     (tie.spec
     (λ c κs. search rules)
-    returns
+    (λ c. let a = c.args in rw (le-ltb a.i (length a.numbers.now) (omega arith), c.outside.ensures))
     (λ c κs. search rules)
-    returns-2
+    (λ c. let a = c.args in rw (lt-ltb a.i (length a.numbers.now) (omega arith), get_or-eq_default a.marks.now 0 {n = a.i} (omega arith), c.hidden.ensures))
     (λ c. search rules)
     (λ c κs. search rules)
-    returns-3
+    (λ c. let a = c.args in rw (lt-ltb a.i (length a.numbers.now) (omega arith), ne_eqb (get_or a.marks.now a.i 0) 1 (λ e. omega arith)) (search rules))
     (λ c. search rules)
     (λ c. search rules)
     (λ c κs. search rules)
-    returns-4)
+    (λ c.
+    let a = c.args in
+    rw (
+      lt-ltb a.i (length a.numbers.now) (omega arith),
+      eq-eqb (get_or a.marks.now a.i 0) 1 (omega arith),
+      to_z-of_z (sfits_of c.signed.type_inv),
+      c.signed.ensures,
+    )))

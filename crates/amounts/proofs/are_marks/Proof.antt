@@ -5,7 +5,7 @@ use mathlib.Core.Path.{◌≡◌, refl}
 use native.Mathlib.Omega.{arith}
 use native.Mathlib.Numerals.{add-one}
 use borrow.Author.Tests.{le-leb, lt-leb}
-use lib.ListN.{length, drop, drop_of_length-le}
+use lib.ListN.{length, get_or, drop, drop_of_length-le}
 use lib.Seq.{drop-cons}
 use Rattle.semantics.specs.Evaluate.{are_marks}
 use Rattle.amounts.proofs.are_marks.Statement.{statement}
@@ -20,17 +20,11 @@ decreases-loop-i marks i₀ i = length marks - i
 loop-holds : tie.Need-loop-i-init invariant-loop-i decreases-loop-i
 loop-holds c = (omega arith, refl)
 
-returns : tie.Need-returns-then-marks-i-gt1 invariant-loop-i decreases-loop-i
-returns c =
-    let l = c.before.before.before in
-    let m = l.args.marks.now in
-    rw (drop-cons m l.loop-i.i 0 c.loop-i-test.true, lt-leb _ _ c.if-marks-i-gt1.true) at l.loop-i.invariant.1
-
 loop-again : tie.Need-loop-i-preserved invariant-loop-i decreases-loop-i
 loop-again c =
     let l = c.before.before.before in
     let m = l.args.marks.now in
-    (omega arith, rw add-one (rw (drop-cons m l.loop-i.i 0 c.loop-i-test.true, le-leb _ _ c.if-marks-i-gt1.false) at l.loop-i.invariant.1))
+    (omega arith, rw add-one (rw (drop-cons m l.loop-i.i 0 c.loop-i-test.true, le-leb (get_or m l.loop-i.i 0) 1 (omega arith)) at l.loop-i.invariant.1))
 
 returns-2 : tie.Need-returns invariant-loop-i decreases-loop-i
 returns-2 c =
@@ -45,7 +39,10 @@ are_marks_spec =
     decreases-loop-i
     loop-holds
     (λ c. search rules)
-    returns
+    (λ c.
+    let l = c.before.before.before in
+    let m = l.args.marks.now in
+    rw (drop-cons m l.loop-i.i 0 c.loop-i-test.true, lt-leb (get_or m l.loop-i.i 0) 1 (omega arith)) at l.loop-i.invariant.1)
     (λ c. search rules)
     (λ c. search rules)
     loop-again

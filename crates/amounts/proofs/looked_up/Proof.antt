@@ -1,8 +1,10 @@
 -- Where a list is asked the index is its bits (`not_negative`), and the list is known in each arm.
 use borrow.Author.Rules.{rules, sfits_of}
+use mathlib.Core.Bool.{true, false}
 use mathlib.Core.Option.{some}
 use mathlib.Core.Path.{◌≡◌, sym, ap, ◌∙◌}
 use lib.IntN.{ℤ, pos}
+use lib.Signed.{lt_z}
 use mir.Syntax.{w64}
 use mir.Val.{of_z, to_z}
 use mir.Facts.{to_z-of_z}
@@ -18,15 +20,13 @@ word c = to_z w64 (of_z w64 c.in-Value.index)
 held : (c : tie.In-Value) → word c ≡ c.in-Value.index
 held c = to_z-of_z {w = w64} {z = c.in-Value.index} (sfits_of c.in-Value.known_told-1-own.given.0.1)
 
-returns-2 : tie.Need-returns-then-index-lt0
-returns-2 c current = rw c.in-Value.is (negative c.in-Value.index (rw (held c.before) at c.if-index-lt0.true) _ _)
-
 -- where the lists are asked
 asked : (c : tie.After-bits-i)
     → stepped c.args.step ≡ some (pos c.bits-i.result)
 asked c =
     let k = c.before.before in
-    rw (k.in-Value.is, c.bits-i.ensures) (ap some (sym (held k) ∙ not_negative (word k) c.if-index-lt0.false))
+    let t : lt_z (word k) (pos 0) ≡ false = search rules in
+    rw (k.in-Value.is, c.bits-i.ensures) (ap some (sym (held k) ∙ not_negative (word k) t))
 
 pub looked_up_spec : {M : Type 1} → statement M
 looked_up_spec =
@@ -35,7 +35,9 @@ looked_up_spec =
     (λ c. search rules)
     (λ c. search rules)
     (λ c current. rw c.in_default.is)
-    returns-2
+    (λ c current.
+    let t : lt_z (word c.before) (pos 0) ≡ true = search rules in
+    rw c.in-Value.is (negative c.in-Value.index (rw (held c.before) at t) _ _))
     (λ c κs. search rules)
     (λ c. search rules)
     (λ c κs. search rules)

@@ -18,7 +18,7 @@ module _ (a : tie.After-write_decimal-arg-2-1) where
   s = a.before.before.before
 
   is : signed (signed_of s.args.bits) ≡ hyphen ∷ decimal (18446744073709551615 - s.args.bits + 1)
-  is = signed_neg s.args.bits (omega (arith, a.if-bits-lt-HALF.false)) (omega arith)
+  is = signed_neg s.args.bits (omega arith) (omega arith)
 
   room : length (decimal (18446744073709551615 - s.args.bits + 1)) < length s.args.out.now
   room = omega (arith, rw is at s.requires)
@@ -30,11 +30,11 @@ pub write_signed_spec : {M : Type 1} → statement M
 write_signed_spec =
     tie.close
     (tie.spec
-    (λ c κs. let s = c.before.before.before in rw (signed_pos s.args.bits c.if-bits-lt-HALF.true) at s.requires)
+    (λ c κs. let s = c.before.before.before in rw (signed_pos s.args.bits (omega arith)) at s.requires)
     (λ c. search rules)
     (λ c.
     let w = c.before.before in
-    rw (signed_pos w.args.bits w.if-bits-lt-HALF.true) w.write_decimal.ensures)
+    rw (signed_pos w.args.bits (omega arith)) w.write_decimal.ensures)
     (λ c. search rules)
     (λ c κs. omega (arith, room c))
     (λ c. begins c.before.before)

@@ -5,7 +5,7 @@ use mathlib.Core.Path.{◌≡◌, refl}
 use native.Mathlib.Omega.{arith}
 use native.Mathlib.Numerals.{add-one}
 use borrow.Author.Tests.{le-leb, lt-leb}
-use lib.ListN.{length, drop, drop_of_length-le}
+use lib.ListN.{length, get_or, drop, drop_of_length-le}
 use lib.Seq.{drop-cons}
 use Rattle.semantics.specs.Evaluate.{ends_sound}
 use Rattle.witness.proofs.ends_sound.Statement.{statement}
@@ -20,25 +20,14 @@ decreases-loop-i ends size last₀ i₀ last i = length ends - i
 loop-holds : tie.Need-loop-i-init invariant-loop-i decreases-loop-i
 loop-holds c = (omega arith, refl)
 
-returns : tie.Need-returns-then-end-last invariant-loop-i decreases-loop-i
-returns c =
-    let l = c.before.before.before in
-    rw (drop-cons l.args.ends.now l.loop-i.i 0 c.loop-i-test.true, lt-leb _ _ c.if-end-last.true) at l.loop-i.invariant.1
-
-returns-2 : tie.Need-returns-then-size-end invariant-loop-i decreases-loop-i
-returns-2 c =
-    let l = c.before.before.before.before in
-    rw (drop-cons l.args.ends.now l.loop-i.i 0 c.loop-i-test.true, le-leb _ _ c.if-end-last.false, lt-leb _ _ c.if-size-end.true)
-    at l.loop-i.invariant.1
-
 loop-again : tie.Need-loop-i-preserved invariant-loop-i decreases-loop-i
 loop-again c =
     let l = c.before.before.before.before in (
       omega arith,
       rw add-one (rw (
         drop-cons l.args.ends.now l.loop-i.i 0 c.loop-i-test.true,
-        le-leb _ _ c.if-end-last.false,
-        le-leb _ _ c.if-size-end.false,
+        le-leb l.loop-i.last (get_or l.args.ends.now l.loop-i.i 0) (omega arith),
+        le-leb (get_or l.args.ends.now l.loop-i.i 0) l.args.size (omega arith),
       ) at l.loop-i.invariant.1),
     )
 
@@ -57,8 +46,15 @@ ends_sound_spec =
     (λ c. search rules)
     (λ c. search rules)
     (λ c. omega (arith, c.shared_slice_known-1.given c.loop-i.i))
-    returns
-    returns-2
+    (λ c.
+    let l = c.before.before.before in
+    let e = get_or l.args.ends.now l.loop-i.i 0 in
+    rw (drop-cons l.args.ends.now l.loop-i.i 0 c.loop-i-test.true, lt-leb l.loop-i.last e (omega arith)) at l.loop-i.invariant.1)
+    (λ c.
+    let l = c.before.before.before.before in
+    let e = get_or l.args.ends.now l.loop-i.i 0 in
+    rw (drop-cons l.args.ends.now l.loop-i.i 0 c.loop-i-test.true, le-leb l.loop-i.last e (omega arith), lt-leb e l.args.size (omega arith))
+    at l.loop-i.invariant.1)
     (λ c. search rules)
     (λ c. search rules)
     loop-again
