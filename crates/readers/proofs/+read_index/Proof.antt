@@ -95,10 +95,10 @@ module _ (t : ℕ) (w : lts.After-width-end (called t) (pre t) read-index.Post I
   start = at.loop-count.end - w.width-end.result
 
   own : (1 ≤ w.width-end.result) × (w.width-end.result ≤ at.loop-count.end)
-  own = own_tokens (rows t at) (last t at) at.loop-count.end k _ (fits t at) at.loop-count.invariant.low row.row_before-row.ensures (omega (arith, w.if-row-ge-BETWEEN.false)) w.width-end.ensures
+  own = own_tokens (rows t at) (last t at) at.loop-count.end k _ (fits t at) at.loop-count.invariant.low row.row_before-row.ensures (omega arith) w.width-end.ensures
 
   found : (r : Records) → Rows r (rows t at) (last t at) → At (token_at r) at.loop-count.end k start
-  found = noted_at (rows t at) (last t at) at.loop-count.end k _ (fits t at) at.loop-count.invariant.low row.row_before-row.ensures (omega (arith, w.if-row-ge-BETWEEN.false)) w.width-end.ensures
+  found = noted_at (rows t at) (last t at) at.loop-count.end k _ (fits t at) at.loop-count.invariant.low row.row_before-row.ensures (omega arith) w.width-end.ensures
 
 -- the right operand is read
 module _ (t : ℕ) (c : lts.In-Read (called t) (pre t) read-index.Post Inv decreases-loop-count) where
@@ -111,63 +111,36 @@ module _ (t : ℕ) (c : lts.In-Read (called t) (pre t) read-index.Post Inv decre
   low : middle ≤ start t wide
   low = c.read_index.ensures.within middle c.in-Read.is
 
-returns : (t : ℕ) → lts.Need-returns-then-row-lt-INDEXES (called t) (pre t) read-index.Post Inv decreases-loop-count
-returns t c = let b = c.before in
-    nothing_read t (turn t b) λ r p. index-before r _ _ (row_is t b r p) c.if-row-lt-INDEXES.true _ b.loop-count-test.true
-
-returns-2 : (t : ℕ) → lts.Need-returns-then-row-ge-BETWEEN (called t) (pre t) read-index.Post Inv decreases-loop-count
-returns-2 t c = let b = c.before.before in
-    nothing_read t (turn t b) λ r p. index_beyond r _ _ (row_is t b r p) c.if-row-ge-BETWEEN.true _ b.loop-count-test.true
-
-again : (t : ℕ) → lts.Need-loop-count-preserved-then-row-lt-INDEX_OPERATIONS (called t) (pre t) read-index.Post Inv decreases-loop-count
-again t c = let w = c.before in let h = own t w in
-    next t (at t w) _ _ (omega (arith, h)) (omega (arith, h, some t w)) λ r p.
-    index_terminal r _ _ _ (found t w r p) w.if-row-lt-INDEXES.false c.if-row-lt-INDEX_OPERATIONS.true _ (some t w)
-
-again-2 : (t : ℕ) → lts.Need-loop-count-preserved-then-row-lt-INDEX_MUL (called t) (pre t) read-index.Post Inv decreases-loop-count
-again-2 t c = let w = c.before.before in let h = own t w in
-    next t (at t w) _ _ (omega (arith, h)) (omega (arith, h)) λ r p.
-    index_plain r _ _ _ (found t w r p) c.if-row-lt-INDEX_OPERATIONS.false c.if-row-lt-INDEX_MUL.true _ (some t w)
-
 right-requires : (t : ℕ) → lts.Need-read_index-requires (called t) (pre t) read-index.Post Inv decreases-loop-count
 right-requires t c κs = let w = c.before.before in let h = own t w in let l = (at t w).loop-count.invariant.low in
     (omega (arith, h, l, (at t w).requires.0), fitting_fewer (rows t (at t w)) (last t (at t w)) _ (fits t (at t w)) (omega (arith, h, l)))
 
-returns-3 : (t : ℕ) → lts.Need-returns-in_default (called t) (pre t) read-index.Post Inv decreases-loop-count
-returns-3 t c = let right = c.before in let w = right.before.before.before in
+returns : (t : ℕ) → lts.Need-returns-in_default (called t) (pre t) read-index.Post Inv decreases-loop-count
+returns t c = let right = c.before in let w = right.before.before.before in
     nothing_read t (at t w) λ r p.
-    converted_none r _ _ _ (found t w r p) right.if-row-lt-INDEX_MUL.false w.if-row-ge-BETWEEN.false _
+    converted_none r _ _ _ (found t w r p) (omega arith) (omega arith) _
     (right.read_index.ensures.right r (rows-fewer r _ _ _ p (omega (arith, own t w, (at t w).loop-count.invariant.low)))) c.in_default.is _ (some t w)
 
 between-requires : (t : ℕ) → lts.Need-row_before-requires (called t) (pre t) read-index.Post Inv decreases-loop-count
 between-requires t c κs = let w = wide t c in omega (arith, low t c, (at t w).loop-count.invariant.low, (fits t (at t w)).few)
 
-returns-4 : (t : ℕ) → lts.Need-returns-then-row_before-ne-BETWEEN (called t) (pre t) read-index.Post Inv decreases-loop-count
-returns-4 t c =
-    let b = c.before in let k = b.before in let w = wide t k in let right = k.before in
-    let l = (at t w).loop-count.invariant.low in
-    nothing_read t (at t w) λ r p.
-    unconverted r _ _ _ (found t w r p) right.if-row-lt-INDEX_MUL.false w.if-row-ge-BETWEEN.false _
-    (right.read_index.ensures.right r (rows-fewer r _ _ _ p (omega (arith, own t w, l)))) _ k.in-Read.is _
-    (b.row_before.ensures ∙ p.noted _ (omega (arith, low t k, l))) c.if-row_before-ne-BETWEEN.true _ (some t w)
-
 sub-between : (t : ℕ) → lts.Need-overflow_sub-end-in-loop-count (called t) (pre t) read-index.Post Inv decreases-loop-count
 sub-between t c =
     let b = c.before in let k = b.before in let w = wide t k in
-    between_there (rows t (at t w)) (last t (at t w)) _ _ (fits t (at t w)) (omega (arith, low t k, (at t w).loop-count.invariant.low)) b.row_before.ensures c.if-row_before-ne-BETWEEN.false
+    between_there (rows t (at t w)) (last t (at t w)) _ _ (fits t (at t w)) (omega (arith, low t k, (at t w).loop-count.invariant.low)) b.row_before.ensures (omega arith)
 
-again-3 : (t : ℕ) → lts.Need-loop-count-preserved (called t) (pre t) read-index.Post Inv decreases-loop-count
-again-3 t c =
+again : (t : ℕ) → lts.Need-loop-count-preserved (called t) (pre t) read-index.Post Inv decreases-loop-count
+again t c =
     let b = c.before in let k = b.before in let w = wide t k in let right = k.before in
     let l = (at t w).loop-count.invariant.low in let h = own t w in let m = low t k in
     let e : middle t k ≤ last t (at t w) = omega (arith, m, l) in
     next t (at t w) _ _ (omega (arith, m, h)) (omega (arith, m, h)) λ r p.
-    converted-left r _ _ _ (found t w r p) right.if-row-lt-INDEX_MUL.false w.if-row-ge-BETWEEN.false _
+    converted-left r _ _ _ (found t w r p) (omega arith) (omega arith) _
     (right.read_index.ensures.right r (rows-fewer r _ _ _ p (omega (arith, h, l)))) _ k.in-Read.is _
-    (b.row_before.ensures ∙ p.noted _ e) _ (between_at (rows t (at t w)) (last t (at t w)) _ _ (fits t (at t w)) e b.row_before.ensures c.if-row_before-ne-BETWEEN.false r p) _ (some t w)
+    (b.row_before.ensures ∙ p.noted _ e) _ (between_at (rows t (at t w)) (last t (at t w)) _ _ (fits t (at t w)) e b.row_before.ensures (omega arith) r p) _ (some t w)
 
-returns-5 : (t : ℕ) → lts.Need-returns (called t) (pre t) read-index.Post Inv decreases-loop-count
-returns-5 t c = let a = c.before in
+returns-2 : (t : ℕ) → lts.Need-returns (called t) (pre t) read-index.Post Inv decreases-loop-count
+returns-2 t c = let a = c.before in
     loop_done indexes (rows t a) (last t a) read one (λ ts. refl) _ _ a.loop-count.invariant (omega (arith, c.loop-count-test.false))
 
 pub +read_index_spec : {M : Type 1} → statement M
@@ -178,25 +151,36 @@ pub +read_index_spec : {M : Type 1} → statement M
     decreases-loop-count
     (λ c. loop_start indexes _ _)
     (λ c κs. let a = c.before in omega (arith, a.loop-count.invariant.low, (fits t a).few))
-    (returns t)
-    (returns-2 t)
-    (λ c κs. omega (arith, c.if-row-ge-BETWEEN.false))
+    (λ c. let b = c.before in
+    nothing_read t (turn t b) λ r p. index-before r _ _ (row_is t b r p) (omega arith) _ b.loop-count-test.true)
+    (λ c. let b = c.before.before in
+    nothing_read t (turn t b) λ r p. index_beyond r _ _ (row_is t b r p) (omega arith) _ b.loop-count-test.true)
+    (λ c κs. omega arith)
     (λ c. (own t c).1)
     (λ c. some t c.before)
     (λ c. omega (arith, own t c.before))
-    (again t)
+    (λ c. let w = c.before in let h = own t w in
+    next t (at t w) _ _ (omega (arith, h)) (omega (arith, h, some t w)) λ r p.
+    index_terminal r _ _ _ (found t w r p) (omega arith) (omega arith) _ (some t w))
     (λ c. let w = c.before.before in omega (arith, (at t w).loop-count.invariant.room, own t w, (fits t (at t w)).few))
     (λ c. omega (arith, own t c.before.before))
-    (again-2 t)
+    (λ c. let w = c.before.before in let h = own t w in
+    next t (at t w) _ _ (omega (arith, h)) (omega (arith, h)) λ r p.
+    index_plain r _ _ _ (found t w r p) (omega arith) (omega arith) _ (some t w))
     (right-requires t)
     (λ c. search rules)
     (λ c. search rules)
-    (returns-3 t)
+    (returns t)
     (λ c. search rules)
     (between-requires t)
-    (returns-4 t)
+    (λ c. let b = c.before in let k = b.before in let w = wide t k in let right = k.before in
+    let l = (at t w).loop-count.invariant.low in
+    nothing_read t (at t w) λ r p.
+    unconverted r _ _ _ (found t w r p) (omega arith) (omega arith) _
+    (right.read_index.ensures.right r (rows-fewer r _ _ _ p (omega (arith, own t w, l)))) _ k.in-Read.is _
+    (b.row_before.ensures ∙ p.noted _ (omega (arith, low t k, l))) (λ e. omega arith) _ (some t w))
     (sub-between t)
     (λ c. let k = c.before.before in omega (arith, low t k, own t (wide t k)))
-    (again-3 t)
+    (again t)
     (λ c. let a = c.before in omega (arith, a.loop-count.invariant.low, (fits t a).few))
-    (returns-5 t)
+    (returns-2 t)

@@ -88,10 +88,10 @@ module _ (t : ℕ) (w : lts.After-width-end (called t) (pre t) read-value.Post I
   start = at.loop-count.end - w.width-end.result
 
   own : (1 ≤ w.width-end.result) × (w.width-end.result ≤ at.loop-count.end)
-  own = own_tokens (rows t at) (last t at) at.loop-count.end k _ (fits t at) at.loop-count.invariant.low row.row_before-row.ensures (omega (arith, w.if-row-ge-INDEXES.false)) w.width-end.ensures
+  own = own_tokens (rows t at) (last t at) at.loop-count.end k _ (fits t at) at.loop-count.invariant.low row.row_before-row.ensures (omega arith) w.width-end.ensures
 
   found : (r : Records) → Rows r (rows t at) (last t at) → At (token_at r) at.loop-count.end k start
-  found = noted_at (rows t at) (last t at) at.loop-count.end k _ (fits t at) at.loop-count.invariant.low row.row_before-row.ensures (omega (arith, w.if-row-ge-INDEXES.false)) w.width-end.ensures
+  found = noted_at (rows t at) (last t at) at.loop-count.end k _ (fits t at) at.loop-count.invariant.low row.row_before-row.ensures (omega arith) w.width-end.ensures
 
   operand-fits : Fitting (rows t at) start
   operand-fits = fitting_fewer (rows t at) (last t at) start (fits t at) (omega (arith, own, at.loop-count.invariant.low))
@@ -115,58 +115,29 @@ module _ (t : ℕ) (c : lts.In-Read-read_value (called t) (pre t) read-value.Pos
   low : c.in-Read-read_value.middle ≤ start t wide
   low = c.read_value.ensures.within _ c.in-Read-read_value.is
 
-returns : (t : ℕ) → lts.Need-returns-then-row-ge-INDEXES (called t) (pre t) read-value.Post Inv decreases-loop-count
-returns t c = let b = c.before in let a = b.before.before in
-    nothing_read t a λ r p. value_beyond r _ _ (b.row_before-row.ensures ∙ p.noted a.loop-count.end a.loop-count.invariant.low) c.if-row-ge-INDEXES.true _ b.loop-count-test.true
-
-again : (t : ℕ) → lts.Need-loop-count-preserved-then-row-lt-LOOKUPS (called t) (pre t) read-value.Post Inv decreases-loop-count
-again t c = let w = c.before in let h = own t w in
-    next t (at t w) _ _ (omega (arith, h)) (omega (arith, h, some t w)) λ r p. value-const r _ _ _ (found t w r p) c.if-row-lt-LOOKUPS.true _ (some t w)
-
-returns-2 : (t : ℕ) → lts.Need-returns-in_default (called t) (pre t) read-value.Post Inv decreases-loop-count
-returns-2 t c = let x = c.before in let b = x.before in let w = b.before.before in
+returns : (t : ℕ) → lts.Need-returns-in_default (called t) (pre t) read-value.Post Inv decreases-loop-count
+returns t c = let x = c.before in let w = x.before.before.before in
     nothing_read t (at t w) λ r p.
-    lookup_none r _ _ _ (found t w r p) b.if-row-lt-LOOKUPS.false b.if-row-lt-UNARIES.true _
+    lookup_none r _ _ _ (found t w r p) (omega arith) (omega arith) _
     (x.read_index.ensures.right r (operand_rows t w r p)) c.in_default.is _ (some t w)
-
-again-2 : (t : ℕ) → lts.Need-loop-count-preserved-then-row-lt-UNARIES (called t) (pre t) read-value.Post Inv decreases-loop-count
-again-2 t c = let x = c.before in let b = x.before in let w = looked t c in let h = own t w in let m = index-low t c in
-    next t (at t w) _ _ (omega (arith, h, m)) (omega (arith, h, m, some t w)) λ r p.
-    lookup_read r _ _ _ (found t w r p) b.if-row-lt-LOOKUPS.false b.if-row-lt-UNARIES.true _
-    (x.read_index.ensures.right r (operand_rows t w r p)) _ c.in-Read.is _ (some t w)
-
-again-3 : (t : ℕ) → lts.Need-loop-count-preserved-then-row-lt-BINARIES (called t) (pre t) read-value.Post Inv decreases-loop-count
-again-3 t c = let w = c.before.before.before in let h = own t w in
-    next t (at t w) _ _ (omega (arith, h)) (omega (arith, h)) λ r p. value_unary r _ _ _ (found t w r p) c.if-row-lt-UNARIES.false c.if-row-lt-BINARIES.true _ (some t w)
 
 right-requires : (t : ℕ) → lts.Need-read_value-requires (called t) (pre t) read-value.Post Inv decreases-loop-count
 right-requires t c κs = let w = c.before.before.before.before in
     (omega (arith, own t w, (at t w).loop-count.invariant.low, (at t w).requires.0), operand-fits t w)
 
-returns-3 : (t : ℕ) → lts.Need-returns-in_default-read_value (called t) (pre t) read-value.Post Inv decreases-loop-count
-returns-3 t c = let x = c.before in let b = x.before in let w = b.before.before.before.before in
+returns-2 : (t : ℕ) → lts.Need-returns-in_default-read_value (called t) (pre t) read-value.Post Inv decreases-loop-count
+returns-2 t c = let x = c.before in let w = x.before.before.before.before.before in
     nothing_read t (at t w) λ r p.
-    binary_none r _ _ _ (found t w r p) b.if-row-lt-BINARIES.false (omega (arith, b.if-row-lt-BIT_OPERATIONS.true)) _
+    binary_none r _ _ _ (found t w r p) (omega arith) (omega arith) _
     (x.read_value.ensures.right r (operand_rows t w r p)) c.in_default-read_value.is _ (some t w)
 
-again-4 : (t : ℕ) → lts.Need-loop-count-preserved-then-row-lt-BIT_OPERATIONS (called t) (pre t) read-value.Post Inv decreases-loop-count
-again-4 t c = let x = c.before in let b = x.before in let w = wide t c in let h = own t w in let m = low t c in
-    next t (at t w) _ _ (omega (arith, h, m)) (omega (arith, h, m)) λ r p.
-    binary_left r _ _ _ (found t w r p) b.if-row-lt-BINARIES.false (omega (arith, b.if-row-lt-BIT_OPERATIONS.true)) _
-    (x.read_value.ensures.right r (operand_rows t w r p)) _ c.in-Read-read_value.is _ (some t w)
-
-again-5 : (t : ℕ) → lts.Need-loop-count-preserved-then-row-lt-ORACLES (called t) (pre t) read-value.Post Inv decreases-loop-count
-again-5 t c = let w = c.before.before.before.before.before in let h = own t w in
-    next t (at t w) _ _ (omega (arith, h)) (omega (arith, h)) λ r p.
-    value-counted r _ _ _ (found t w r p) (omega (arith, c.if-row-lt-BIT_OPERATIONS.false)) c.if-row-lt-ORACLES.true _ (some t w)
-
-again-6 : (t : ℕ) → lts.Need-loop-count-preserved (called t) (pre t) read-value.Post Inv decreases-loop-count
-again-6 t c = let w = c.before.before.before.before.before in let h = own t w in
+again : (t : ℕ) → lts.Need-loop-count-preserved (called t) (pre t) read-value.Post Inv decreases-loop-count
+again t c = let w = c.before.before.before.before.before in let h = own t w in
     next t (at t w) _ _ (omega (arith, h)) (omega (arith, h, some t w)) λ r p.
-    value-oracle r _ _ _ (found t w r p) c.if-row-lt-ORACLES.false w.if-row-ge-INDEXES.false _ (some t w)
+    value-oracle r _ _ _ (found t w r p) (omega arith) (omega arith) _ (some t w)
 
-returns-4 : (t : ℕ) → lts.Need-returns (called t) (pre t) read-value.Post Inv decreases-loop-count
-returns-4 t c = let a = c.before in
+returns-3 : (t : ℕ) → lts.Need-returns (called t) (pre t) read-value.Post Inv decreases-loop-count
+returns-3 t c = let a = c.before in
     loop_done values (rows t a) (last t a) read one (λ ts. refl) _ _ a.loop-count.invariant (omega (arith, c.loop-count-test.false))
 
 pub +read_value_spec : {M : Type 1} → statement M
@@ -177,34 +148,45 @@ pub +read_value_spec : {M : Type 1} → statement M
     decreases-loop-count
     (λ c. loop_start values _ _)
     (λ c κs. let a = c.before in omega (arith, a.loop-count.invariant.low, (fits t a).few))
-    (returns t)
-    (λ c κs. omega (arith, c.if-row-ge-INDEXES.false))
+    (λ c. let b = c.before in let a = b.before.before in
+    nothing_read t a λ r p. value_beyond r _ _ (b.row_before-row.ensures ∙ p.noted a.loop-count.end a.loop-count.invariant.low) (omega arith) _ b.loop-count-test.true)
+    (λ c κs. omega arith)
     (λ c. (own t c).1)
     (λ c. some t c.before)
     (λ c. omega (arith, own t c.before))
-    (again t)
+    (λ c. let w = c.before in let h = own t w in
+    next t (at t w) _ _ (omega (arith, h)) (omega (arith, h, some t w)) λ r p. value-const r _ _ _ (found t w r p) (omega arith) _ (some t w))
     (λ c κs. operand-fits t c.before.before)
+    (λ c. search rules)
+    (λ c. search rules)
+    (returns t)
+    (λ c. search rules)
+    (λ c. some t (looked t c))
+    (λ c. omega (arith, index-low t c, own t (looked t c)))
+    (λ c. let x = c.before in let w = looked t c in let h = own t w in let m = index-low t c in
+    next t (at t w) _ _ (omega (arith, h, m)) (omega (arith, h, m, some t w)) λ r p.
+    lookup_read r _ _ _ (found t w r p) (omega arith) (omega arith) _
+    (x.read_index.ensures.right r (operand_rows t w r p)) _ c.in-Read.is _ (some t w))
+    (λ c. omega (arith, own t c.before.before.before))
+    (λ c. let w = c.before.before.before in let h = own t w in
+    next t (at t w) _ _ (omega (arith, h)) (omega (arith, h)) λ r p. value_unary r _ _ _ (found t w r p) (omega arith) (omega arith) _ (some t w))
+    (right-requires t)
     (λ c. search rules)
     (λ c. search rules)
     (returns-2 t)
     (λ c. search rules)
-    (λ c. some t (looked t c))
-    (λ c. omega (arith, index-low t c, own t (looked t c)))
-    (again-2 t)
-    (λ c. omega (arith, own t c.before.before.before))
-    (again-3 t)
-    (right-requires t)
-    (λ c. search rules)
-    (λ c. search rules)
-    (returns-3 t)
-    (λ c. search rules)
     (λ c. omega (arith, low t c, own t (wide t c)))
-    (again-4 t)
+    (λ c. let x = c.before in let w = wide t c in let h = own t w in let m = low t c in
+    next t (at t w) _ _ (omega (arith, h, m)) (omega (arith, h, m)) λ r p.
+    binary_left r _ _ _ (found t w r p) (omega arith) (omega arith) _
+    (x.read_value.ensures.right r (operand_rows t w r p)) _ c.in-Read-read_value.is _ (some t w))
     (λ c. let w = c.before.before.before.before.before in omega (arith, (at t w).loop-count.invariant.room, own t w, (fits t (at t w)).few))
     (λ c. omega (arith, own t c.before.before.before.before.before))
-    (again-5 t)
+    (λ c. let w = c.before.before.before.before.before in let h = own t w in
+    next t (at t w) _ _ (omega (arith, h)) (omega (arith, h)) λ r p.
+    value-counted r _ _ _ (found t w r p) (omega arith) (omega arith) _ (some t w))
     (λ c. some t c.before.before.before.before.before)
     (λ c. omega (arith, own t c.before.before.before.before.before))
-    (again-6 t)
+    (again t)
     (λ c. let a = c.before in omega (arith, a.loop-count.invariant.low, (fits t a).few))
-    (returns-4 t)
+    (returns-3 t)

@@ -18,12 +18,6 @@ rows s = s.args.rows.now
 abbrev size : tie.Start → ℕ
 size s = s.args.size
 
-returns : tie.Need-returns-then-row-lt-COMPARISONS
-returns c r p = let b = c.before in condition-before r _ _ (b.row_before-row.ensures ∙ p.noted _ (omega arith)) c.if-row-lt-COMPARISONS.true
-
-returns-2 : tie.Need-returns-then-row-ge-ROWS
-returns-2 c r p = let b = c.before.before in condition_beyond r _ _ (b.row_before-row.ensures ∙ p.noted _ (omega arith)) c.if-row-ge-ROWS.true
-
 -- a row is found, and its width is known
 module _ (c : tie.After-width) where
   abbrev row : tie.After-row_before-row
@@ -36,10 +30,10 @@ module _ (c : tie.After-width) where
   start = size begin - c.width.result
 
   own : c.width.result ≤ size begin
-  own = (own_tokens (rows begin) (size begin) (size begin) _ _ begin.requires (omega arith) row.row_before-row.ensures c.if-row-ge-ROWS.false c.width.ensures).1
+  own = (own_tokens (rows begin) (size begin) (size begin) _ _ begin.requires (omega arith) row.row_before-row.ensures (omega arith) c.width.ensures).1
 
   found : (r : Records) → Rows r (rows begin) (size begin) → At (token_at r) (size begin) row.row_before-row.result start
-  found = noted_at (rows begin) (size begin) (size begin) _ _ begin.requires (omega arith) row.row_before-row.ensures c.if-row-ge-ROWS.false c.width.ensures
+  found = noted_at (rows begin) (size begin) (size begin) _ _ begin.requires (omega arith) row.row_before-row.ensures (omega arith) c.width.ensures
 
   operand : (n : ℕ) → n ≤ start → Fitting (rows begin) n
   operand n h = fitting_fewer (rows begin) (size begin) n begin.requires (omega arith)
@@ -50,18 +44,18 @@ module _ (c : tie.After-width) where
 right-low : (c : tie.In-Read) → let w = c.before.before in c.in-Read.right ≤ start w
 right-low c = c.read_value.ensures.within _ c.in-Read.is
 
-returns-3 : tie.Need-returns-in_default
-returns-3 c r p =
+returns : tie.Need-returns-in_default
+returns c r p =
     let x = c.before in
     let w = x.before in
-    compared_none r _ _ _ (found w r p) w.if-row-lt-COMPARISONS.false _ (x.read_value.ensures.right r (operand_rows w _ (omega arith) r p)) c.in_default.is
+    compared_none r _ _ _ (found w r p) (omega arith) _ (x.read_value.ensures.right r (operand_rows w _ (omega arith) r p)) c.in_default.is
 
-returns-4 : tie.Need-returns
-returns-4 c r p =
+returns-2 : tie.Need-returns
+returns-2 c r p =
     let k = c.before in
     let x = k.before in
     let w = x.before in
-    compared-left r _ _ _ (found w r p) w.if-row-lt-COMPARISONS.false _ (x.read_value.ensures.right r (operand_rows w _ (omega arith) r p))
+    compared-left r _ _ _ (found w r p) (omega arith) _ (x.read_value.ensures.right r (operand_rows w _ (omega arith) r p))
     _ k.in-Read.is _ (c.read_value-2.ensures.right r (operand_rows w _ (right-low k) r p))
 
 pub read_condition_spec : {M : Type 1} → statement M
@@ -69,14 +63,14 @@ read_condition_spec =
     tie.close
     (tie.spec
     (λ c κs. search rules)
-    returns
-    returns-2
+    (λ c r p. let b = c.before in condition-before r _ _ (b.row_before-row.ensures ∙ p.noted _ (omega arith)) (omega arith))
+    (λ c r p. let b = c.before.before in condition_beyond r _ _ (b.row_before-row.ensures ∙ p.noted _ (omega arith)) (omega arith))
     (λ c κs. search rules)
     own
     (λ c κs. operand c _ (omega arith))
     (λ c. search rules)
     (λ c. search rules)
-    returns-3
+    returns
     (λ c. search rules)
     (λ c κs. operand c.before.before _ (right-low c))
-    returns-4)
+    returns-2)
