@@ -65,25 +65,19 @@ loop-less c =
 compared : (n : ℕ) → n ≡ 1 → eqb n 0 ≡ false
 compared n e = ne_eqb n 0 (λ z. omega (arith, z, e))
 
-returns : tie.Need-returns-then-last-code invariant-loop-s decreases-loop-s
+returns : tie.Need-returns-in-Compared invariant-loop-s decreases-loop-s
 returns c =
     let s = c.before.before.before in
     let t = told s (Stepped.Compared _) c.in-Compared.is in
-    sym (t.walk ∙ walk_follows (code s) _ c.if-last-code.true _ (λ z. omega (arith, z, t.counted))) ∙ goes s
+    rw (compared _ t.counted) at (sym (t.walk ∙ walk_ends (code s) _ _ (omega arith)) ∙ goes s)
 
-returns-2 : tie.Need-returns-in-Compared invariant-loop-s decreases-loop-s
+returns-2 : tie.Need-returns-in-Failed invariant-loop-s decreases-loop-s
 returns-2 c =
-    let s = c.before.before.before in
-    let t = told s (Stepped.Compared _) c.in-Compared.is in
-    rw (compared _ t.counted) at (sym (t.walk ∙ walk_ends (code s) _ _ c.if-last-code.false) ∙ goes s)
-
-returns-3 : tie.Need-returns-in-Failed invariant-loop-s decreases-loop-s
-returns-3 c =
     let s = c.before in
     sym (told s Stepped.Failed c.in-Failed.is) ∙ goes s
 
-returns-4 : tie.Need-returns invariant-loop-s decreases-loop-s
-returns-4 c =
+returns-3 : tie.Need-returns invariant-loop-s decreases-loop-s
+returns-3 c =
     let l = c.before.before in
     rw (eq-eqb _ _ l.loop-s.invariant.1) at (sym (walk_ends l.args.code.now l.loop-s.s.bytes l.loop-s.s c.loop-s-test.false) ∙ l.loop-s.invariant.3)
 
@@ -100,8 +94,11 @@ walk_spec =
     loop-less
     loop-again
     (λ c. search rules)
+    (λ c.
+    let s = c.before.before.before in
+    let t = told s (Stepped.Compared _) c.in-Compared.is in
+    sym (t.walk ∙ walk_follows (code s) _ (omega arith) _ (λ z. omega (arith, z, t.counted))) ∙ goes s)
     returns
-    returns-2
     (λ c. search rules)
-    returns-3
-    returns-4)
+    returns-2
+    returns-3)

@@ -3,6 +3,7 @@ use borrow.Author.Rules.{rules}
 use Prim.Native.Nat.{◌<◌, ◌^◌}
 use mathlib.Core.Option.{none}
 use mathlib.Core.Path.{◌≡◌, sym, ◌∙◌}
+use native.Mathlib.Omega.{arith}
 use Rattle.slices.specs.Bytes.{All, Bytes}
 use Rattle.slices.proofs.Bytes.{all_of}
 use Rattle.semantics.specs.Records.{Records, records_of, unsound}
@@ -27,39 +28,23 @@ wide k = all_of (λ n. n < 2 ^ 64) (begin k).args.numbers.now 0 (λ i. (k.shared
 sound : (c : tie.In-Sound) → unsound (records c.before.before.before) ≡ none
 sound c = scanned_none _ (sym c.scan.ensures ∙ c.in-Sound.is)
 
-returns : tie.Need-returns-then-kinds-gt-MAX_TOKENS
-returns c = let k = c.before in owed_10 (records k) (begin k).args.code.now (bytes k) (wide k) c.if-kinds-gt-MAX_TOKENS.true
-
-returns-2 : tie.Need-returns-then-code-lt-MAX_CODE
-returns-2 c =
-    let k = c.before.before.before.before in
-    owed_7 (records k) (begin k).args.code.now (bytes k) (wide k) c.if-kinds-gt-MAX_TOKENS.false (sound c.before) c.if-code-lt-MAX_CODE.true
-
-decode-sound-requires : tie.Need-decode_sound-requires
-decode-sound-requires c κs = record { few = c.if-kinds-gt-MAX_TOKENS.false; sound = sound c.before.before; full = c.if-code-lt-MAX_CODE.false }
-
-returns-3 : tie.Need-returns-in-Unsound
-returns-3 c =
-    let k = c.before.before.before in
-    owed_9 (records k) (begin k).args.code.now (bytes k) (wide k) c.if-kinds-gt-MAX_TOKENS.false _
-    (scanned_some _ _ (sym c.scan.ensures ∙ c.in-Unsound.is))
-
-returns-4 : tie.Need-returns-else-code-lt-MAX_CODE
-returns-4 c =
-    let k = c.before.before.before.before.before.before.before.before in
-    owed_read (records k) (begin k).args.code.now (bytes k) (wide k) c.if-kinds-gt-MAX_TOKENS.false (sound c.before.before.before.before.before) c.if-code-lt-MAX_CODE.false
-    c.decode_sound.result _ c.decode_sound.ensures
-
 pub decode_spec : {M : Type 1} → statement M
 decode_spec =
     tie.close
     (tie.spec
-    returns
+    (λ c. let k = c.before in owed_10 (records k) (begin k).args.code.now (bytes k) (wide k) (omega arith))
     (λ c κs. search rules)
     (λ c. search rules)
     (λ c. search rules)
-    returns-2
-    decode-sound-requires
-    returns-3
+    (λ c.
+    let k = c.before.before.before.before in
+    owed_7 (records k) (begin k).args.code.now (bytes k) (wide k) (omega arith) (sound c.before) (omega arith))
+    (λ c κs. record { few = omega arith; sound = sound c.before.before; full = omega arith })
+    (λ c.
+    let k = c.before.before.before in
+    owed_9 (records k) (begin k).args.code.now (bytes k) (wide k) (omega arith) _ (scanned_some _ _ (sym c.scan.ensures ∙ c.in-Unsound.is)))
     (λ c. search rules)
-    returns-4)
+    (λ c.
+    let k = c.before.before.before.before.before.before.before.before in
+    owed_read (records k) (begin k).args.code.now (bytes k) (wide k) (omega arith) (sound c.before.before.before.before.before) (omega arith)
+    c.decode_sound.result _ c.decode_sound.ensures))

@@ -18,10 +18,6 @@ decreases-loop-at code oracles positions₀ at₀ count₀ positions at count = 
 abbrev begin : tie.At-loop-at invariant-loop-at decreases-loop-at → tie.Start invariant-loop-at decreases-loop-at
 begin a = a.before.before.before.before
 
--- no oracle terminal
-returns : tie.Need-returns-then-oracles-eq0 invariant-loop-at decreases-loop-at
-returns c = let s = c.before.before.before in none_found s.args.code.now s.args.positions.now (omega (arith, s.requires.2, c.if-oracles-eq0.true))
-
 -- in a turn: the operand bytes are there
 operands : (t : tie.In-loop-at invariant-loop-at decreases-loop-at) → after (begin t.before).args.code.now t.loop-at.at ≤ length (begin t.before).args.code.now
 operands t =
@@ -68,7 +64,7 @@ find_keys_spec =
     (tie.spec
     invariant-loop-at
     decreases-loop-at
-    returns
+    (λ c. none_found c.before.before.before.args.code.now c.before.before.before.args.positions.now (omega (arith, c.before.before.before.requires.2)))
     (λ c. let s = c.before.before.before in noting_none s.args.code.now s.args.positions.now s.requires.0)
     (λ c κs. operands c)
     (λ c. omega (arith, operands_at_lem c.before, next-at c.before))

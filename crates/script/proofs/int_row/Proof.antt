@@ -1,6 +1,6 @@
 -- A number that has an opcode of its own (`small_int`), and one that has none (`large_int`).
 use borrow.Author.Rules.{rules}
-use Prim.Native.Nat.{suc, ◌+◌, ◌-◌}
+use Prim.Native.Nat.{ℕ, suc, ◌+◌, ◌-◌, ◌≤◌}
 use mathlib.Core.Path.{◌≡◌, refl}
 use native.Mathlib.Omega.{arith}
 use Rattle.slices.specs.Bytes.{little_endian}
@@ -9,22 +9,9 @@ use Rattle.script.proofs.Pushes.{large_int, small_int}
 use Rattle.script.proofs.int_row.Statement.{statement}
 use Rattle.script.proofs.int_row.Tie as tie
 
-returns-2 : tie.Need-returns-then-n-le16
-returns-2 c =
-    let n = c.args.n in
-    let e : n - 1 + 0x51 ≡ 0x50 + n = omega (arith, c.if-n-eq0.false) in
-    rw (small_int n (omega (arith, c.if-n-eq0.false)) c.if-n-le16.true, ← e) c.opcode-then-n-le16.ensures
-
-returns-3 : tie.Need-returns
-returns-3 c =
-    let w = c.number_width-width.ensures in
-    let n = c.args.n in
-    let e : 1 + c.number_width-width.result ≡ suc (number_width n) = omega (arith, w.0) in
-    record {
-      is = rw (e, w.0) (large_int n c.if-n-le16.false);
-      fits = omega (arith, w.1);
-      room = refl;
-    }
+-- the opcode as the code computes it
+opcode-at : (n : ℕ) → 1 ≤ n → n - 1 + 0x51 ≡ 0x50 + n
+opcode-at n l = omega arith
 
 pub int_row_spec : {M : Type 1} → statement M
 unfolding script push_int number_width little_endian
@@ -32,12 +19,12 @@ int_row_spec =
     tie.close
     (tie.spec
     (λ c κs. search rules)
-    (λ c. rw c.if-n-eq0.true c.opcode.ensures)
+    (λ c. let e : c.args.n ≡ 0 = omega arith in rw e c.opcode.ensures)
     (λ c. search rules)
     (λ c. search rules)
     (λ c. search rules)
     (λ c κs. search rules)
-    returns-2
+    (λ c. rw (small_int c.args.n (omega arith) (omega arith), ← opcode-at c.args.n (omega arith)) assumption)
     (λ c κs. search rules)
     (λ c. omega (arith, c.number_width-width.ensures.1))
     (λ c. omega (arith, c.number_width-width.ensures.1))
@@ -46,4 +33,10 @@ int_row_spec =
     (λ c. search rules)
     (λ c. search rules)
     (λ c. search rules)
-    returns-3)
+    (λ c.
+    let e : 1 + c.number_width-width.result ≡ suc (number_width c.args.n) = omega (arith, c.number_width-width.ensures.0) in
+    record {
+      is = rw (e, c.number_width-width.ensures.0) (large_int c.args.n (omega arith));
+      fits = omega (arith, c.number_width-width.ensures.1);
+      room = refl;
+    }))

@@ -19,14 +19,8 @@ same_length c =
     let f = c.before.before.before.before.before in
     full-after 9300 fill c.word-room.result f.filled-code.result c.call-answer.new.code f.filled-code.ensures c.call-answer.auto.code
 
-returns : tie.Need-returns-then-room-gt-ROOM
+returns : tie.Need-returns
 returns c =
-    let p = c.before.before in
-    let h : 9300 < c.word-room.result = omega arith in
-    sym (decode_short p.args.body.now p.part-known.result.now _ p.part-known.ensures c.word-room.ensures h)
-
-returns-2 : tie.Need-returns
-returns-2 c =
     let d = c.before.before.before.before.before.before in
     let w = d.before.before.before in
     let p = w.before in
@@ -43,7 +37,10 @@ agrees_spec =
     (λ c κs. search rules)
     (λ c κs. search rules)
     (λ c κs. search rules)
-    returns
+    (λ c.
+    let p = c.before.before in
+    let h : 9300 < c.word-room.result = omega arith in
+    sym (decode_short p.args.body.now p.part-known.result.now _ p.part-known.ensures c.word-room.ensures h))
     (λ c. search rules)
     (λ c. sym (length-take-le _ _ (omega (arith, full _ _ _ c.filled-code.ensures))))
     (λ c κs. search rules)
@@ -52,4 +49,4 @@ agrees_spec =
     (λ c. sym (same_length c.before.before.before.before))
     (λ c κs. search rules)
     (λ c κs. search rules)
-    returns-2)
+    returns)
