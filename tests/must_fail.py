@@ -41,7 +41,9 @@ def needs_in_order(crate, function):
 
 def argument(text, at):
     """Which argument of `tie.spec` stands at an offset, those that are no need (invariants and measures) left out."""
-    k, depth, i = -1, 0, text.index("tie.spec") + len("tie.spec")
+    spec = re.search(r"\b(tie|lts)\.spec", text)
+    # a reader's takes what it may call and what it promises before the rest
+    k, depth, i = -1 if spec[1] == "tie" else -4, 0, spec.end()
     while i <= at:
         if depth == 0 and not text[i].isspace() and text[i] != ")":
             word = re.match(r"[^\s()]+", text[i:])
@@ -86,11 +88,6 @@ def first_error(said, crate, name):
     m = re.match(r"note: (\S+?):\d+:\d+: it is not proved that (.*?) \(`([^`]+)`\)", said)
     if m:
         return met_as(m[3]), "%s: not proved: %s (`%s`)" % (m[1], m[2], m[3])
-    m = re.match(r"(?:\./)?(\S+?):\d+:\d+: error: \d+ declarations? that depends? on `([^`]+)`, which was rejected", said)
-    if m:
-        lines = open(os.path.join(ROOT, "crates", crate, m[1])).read().splitlines()
-        line = 1 + next(i for i, text in enumerate(lines) if text.startswith((m[2] + " ", m[2] + " :")))
-        return met_at(crate, m[1], line, 1, m[2]), "%s:%d, `%s`: it does not hold" % (m[1], line, m[2])
     sys.exit("%s/%s: no refusal: %s" % (crate, name, said[:200]))
 
 
