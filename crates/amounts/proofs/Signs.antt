@@ -1,4 +1,5 @@
 -- An index below 0, and one that is not.
+use Rattle.std.proofs.Common.{Err}
 use Prim.Native.Nat.{ℕ}
 use mathlib.Core.Bool.{true, false}
 use mathlib.Core.Path.{◌≡◌, refl}
@@ -9,10 +10,9 @@ use lib.Signed.{lt_z}
 use Rattle.word64.specs.Bits.{bits_of}
 use Rattle.semantics.specs.declared.AmountList.{AmountList}
 use Rattle.semantics.specs.declared.Refusal.{Refusal}
-use Rattle.semantics.specs.declared.Value.{Value}
 use Rattle.semantics.specs.Evaluation.{Amounts, amount}
 
-pub negative : (z : ℤ) → lt_z z (pos 0) ≡ true → (a : Amounts) (l : AmountList) → Value.Refused Refusal.NegativeIndex ≡ amount a l z
+pub negative : (z : ℤ) → lt_z z (pos 0) ≡ true → (a : Amounts) (l : AmountList) → Err Refusal.NegativeIndex ≡ amount a l z
 unfolding amount
 negative (pos n) h a l = absurd (omega (arith, ltb-true n 0 h))
 negative (negsuc n) h a l = refl

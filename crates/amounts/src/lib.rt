@@ -1,70 +1,63 @@
-// The amount lists: whether they are sound, and a lookup in one of them.
+// The amounts of a transaction: whether its lists are sound, and a lookup in one of them.
 #![tactic(auto)]
 
-ghost use Rattle.std.specs.Prelude.{◌≡◌, ℕ, pos};
-ghost use Rattle.index64.specs.Steps.{stepped};
+ghost use Rattle.std.specs.Prelude.{◌≡◌, pos};
 ghost use Rattle.semantics.specs.Operations.{list_row};
-ghost use Rattle.semantics.specs.Evaluation.{amount};
+ghost use Rattle.semantics.specs.Evaluation.{amount, amounts};
 ghost use Rattle.semantics.specs.Evaluate.{are_marks, env_sound, paired};
-ghost use Rattle.amounts.specs.Lists.{amounts_of, env_of};
+ghost use Rattle.amounts.specs.Transactions.{amounts_in, env_in};
 ghost use Rattle.amounts.specs.Looked.{looked};
 
-use index64::Step;
-use semantics::{AmountList, Refusal, Value};
+use semantics::{AmountList, Refusal};
+
+// A list of amounts: the number of each slot, and its mark, 1 where the amount is explicit.
+#[derive(Clone, Copy)]
+pub struct Amounts<'a> {
+    pub numbers: &'a [u64],
+    pub marks: &'a [u8],
+}
+
+// What an evaluation goes by of a transaction: its amounts, and the index of the input that the condition stands at.
+#[derive(Clone, Copy)]
+pub struct Transaction<'a> {
+    pub spent: Amounts<'a>,
+    pub outputs: Amounts<'a>,
+    pub issued: Amounts<'a>,
+    pub reissued: Amounts<'a>,
+    pub current: u64,
+}
 
 // ---- refusal 8
 
 fn are_marks(marks: &[u8]) -> bool
     ensures { result ≡ are_marks marks.now }
 {
-    let mut i = 0;
-    while i < marks.len() {
-        if 1 < marks[i] {
-            return false;
+    marks.iter().all(|&mark| mark <= 1)
+}
+
+impl Amounts<'_> {
+    // Whether there is a mark for each number.
+    fn is_paired(&self) -> bool
+        ensures { result ≡ paired (amounts_in self.now) }
+    {
+        self.numbers.len() == self.marks.len() && are_marks(self.marks)
+    }
+
+    // The amount at i, where this is a transaction's list.
+    #[tactic(auto, unfolding(semantics::specs::Evaluation::amount))]
+    fn get(&self, list: AmountList, i: u64) -> Result<i64, Refusal>
+        ensures { result ≡ amount (amounts_in self.now) list (pos i) }
+    {
+        let k = i as usize;
+        let Some(&number) = self.numbers.get(k) else {
+            return Err(outside(list, i, self.numbers.len()));
+        };
+        // sound lists have a mark for each number
+        if self.marks.get(k) != Some(&1) {
+            return Err(hidden(list, i));
         }
-        i += 1;
+        Ok(word64::signed(number))
     }
-    true
-}
-
-fn is_paired(numbers: &[u64], marks: &[u8]) -> bool
-    ensures { result ≡ paired (amounts_of numbers.now marks.now) }
-{
-    if numbers.len() != marks.len() {
-        return false;
-    }
-    are_marks(marks)
-}
-
-// Whether each list has a mark for each number, and there is a slot of each for each input.
-pub fn amounts_sound(
-    spent: &[u64],
-    spent_marks: &[u8],
-    outputs: &[u64],
-    output_marks: &[u8],
-    issued: &[u64],
-    issued_marks: &[u8],
-    reissued: &[u64],
-    reissued_marks: &[u8],
-) -> bool
-    ensures { result ≡ env_sound (env_of spent.now spent_marks.now outputs.now output_marks.now issued.now issued_marks.now reissued.now reissued_marks.now 0) }
-{
-    if !is_paired(spent, spent_marks) {
-        return false;
-    }
-    if !is_paired(outputs, output_marks) {
-        return false;
-    }
-    if !is_paired(issued, issued_marks) {
-        return false;
-    }
-    if !is_paired(reissued, reissued_marks) {
-        return false;
-    }
-    if issued.len() != spent.len() {
-        return false;
-    }
-    reissued.len() == spent.len()
 }
 
 // ---- a lookup
@@ -75,8 +68,9 @@ fn outside(list: AmountList, i: u64, count: usize) -> Refusal
     match list {
         AmountList::Input => Refusal::UtxoIndexOutOfBounds(i, count),
         AmountList::Output => Refusal::OutputIndexOutOfBounds(i, count),
-        AmountList::InputIssue => Refusal::InputIndexOutOfBounds(i, count),
-        AmountList::InputReIssue => Refusal::InputIndexOutOfBounds(i, count),
+        AmountList::InputIssue | AmountList::InputReIssue => {
+            Refusal::InputIndexOutOfBounds(i, count)
+        }
     }
 }
 
@@ -91,50 +85,37 @@ fn hidden(list: AmountList, i: u64) -> Refusal
     }
 }
 
-// The amount at i, of the list's numbers and marks.
-fn amount_at(list: AmountList, numbers: &[u64], marks: &[u8], i: u64) -> Value
-    ensures { result ≡ amount (amounts_of numbers.now marks.now) list (pos i) }
-{
-    let k = i as usize;
-    if numbers.len() <= k {
-        return Value::Refused(outside(list, i, numbers.len()));
+impl<'a> Transaction<'a> {
+    // Whether each list has a mark for each number, and there is a slot of each for each input.
+    pub fn is_sound(&self) -> bool
+        ensures { result ≡ env_sound (env_in self.now) }
+    {
+        self.spent.is_paired()
+            && self.outputs.is_paired()
+            && self.issued.is_paired()
+            && self.reissued.is_paired()
+            && self.issued.numbers.len() == self.spent.numbers.len()
+            && self.reissued.numbers.len() == self.spent.numbers.len()
     }
-    // sound lists have a mark for each number
-    if marks.len() <= k {
-        return Value::Refused(hidden(list, i));
-    }
-    if marks[k] != 1 {
-        return Value::Refused(hidden(list, i));
-    }
-    Value::Number(word64::signed(numbers[k]))
-}
 
-// The amount that a list has where an index step led, whatever the current index.
-pub fn looked_up(
-    list: AmountList,
-    spent: &[u64],
-    spent_marks: &[u8],
-    outputs: &[u64],
-    output_marks: &[u8],
-    issued: &[u64],
-    issued_marks: &[u8],
-    reissued: &[u64],
-    reissued_marks: &[u8],
-    step: Step,
-) -> Value
-    ensures { (current : ℕ) → result ≡ looked (env_of spent.now spent_marks.now outputs.now output_marks.now issued.now issued_marks.now reissued.now reissued_marks.now current) list (stepped step) }
-{
-    let Step::Value(index) = step else {
-        return Value::Refused(Refusal::IndexStep);
-    };
-    if index < 0 {
-        return Value::Refused(Refusal::NegativeIndex);
+    fn list(&self, list: AmountList) -> &Amounts<'a>
+        ensures { amounts_in result.now ≡ amounts (env_in self.now) list }
+    {
+        match list {
+            AmountList::Input => &self.spent,
+            AmountList::Output => &self.outputs,
+            AmountList::InputIssue => &self.issued,
+            AmountList::InputReIssue => &self.reissued,
+        }
     }
-    let i = word64::bits(index);
-    match list {
-        AmountList::Input => amount_at(list, spent, spent_marks, i),
-        AmountList::Output => amount_at(list, outputs, output_marks, i),
-        AmountList::InputIssue => amount_at(list, issued, issued_marks, i),
-        AmountList::InputReIssue => amount_at(list, reissued, reissued_marks, i),
+
+    // The amount that a list has where an index step led.
+    #[tactic(auto, unfolding(semantics::specs::Evaluation::amount))]
+    pub fn look_up(&self, list: AmountList, step: Option<i64>) -> Result<i64, Refusal>
+        ensures { result ≡ looked (env_in self.now) list step }
+    {
+        let index = step.ok_or(Refusal::IndexStep)?;
+        let i = u64::try_from(index).or(Err(Refusal::NegativeIndex))?;
+        self.list(list).get(list, i)
     }
 }

@@ -1,10 +1,9 @@
 -- "0 is success", "A refusal is a number with its data; place and data are 0 where none is named": each call's answer in document 01's numbers.
-use Rattle.std.specs.Prelude.{ℕ, cond, ◌≡◌, List, length, take}
+use Rattle.std.specs.Prelude.{Bool, ℕ, cond, ◌≡◌, List, length, take, Result, Ok, Err}
+use Rattle.semantics.specs.declared.Refusal.{Refusal}
 use Rattle.semantics.specs.declared.Checked.{Checked}
 use Rattle.semantics.specs.declared.Decoded.{Decoded}
 use Rattle.semantics.specs.declared.Evaluated.{Evaluated}
-use Rattle.semantics.specs.declared.ScriptWritten.{ScriptWritten}
-use Rattle.semantics.specs.declared.Verdict.{Verdict}
 use Rattle.semantics.specs.declared.Written.{Written}
 use Rattle.semantics.specs.Refusals.{numbered}
 use Rattle.answers.specs.declared.CheckAnswer.{CheckAnswer}
@@ -14,34 +13,34 @@ use Rattle.answers.specs.declared.ScriptAnswer.{ScriptAnswer}
 use Rattle.answers.specs.declared.WriteAnswer.{WriteAnswer}
 
 -- "Check adds nothing"; `place` is refusal 2's offset
-abbrev pub check_answer : Checked → CheckAnswer
-check_answer (Checked.Passed tokens oracles) = record { number = 0; place = 0 }
-check_answer (Checked.Refused r) = record { number = (numbered r).number; place = (numbered r).first }
+abbrev pub check_answer : Result Checked Refusal → CheckAnswer
+check_answer (Ok a) = record { number = 0; place = 0 }
+check_answer (Err r) = record { number = (numbered r).number; place = (numbered r).first }
 
 -- "Evaluate true or false", 1 or 0; it "also returns the number of checks and of witness elements left"
-abbrev pub verdict_answer : Verdict → ℕ → ℕ → EvaluateAnswer
-verdict_answer (Verdict.Is holds) checks left =
+abbrev pub verdict_answer : Result Bool Refusal → ℕ → ℕ → EvaluateAnswer
+verdict_answer (Ok holds) checks left =
     record { number = 0; verdict = cond holds 1 0; first = 0; second = 0; checks = checks; left = left }
-verdict_answer (Verdict.Refused r) checks left =
+verdict_answer (Err r) checks left =
     record { number = (numbered r).number; verdict = 0; first = (numbered r).first; second = (numbered r).second; checks = checks; left = left }
 
 abbrev pub evaluate_answer : Evaluated → EvaluateAnswer
 evaluate_answer e = verdict_answer e.verdict e.checks e.left
 
 -- "Write the records and key bytes written"
-abbrev pub write_answer : Written → WriteAnswer
-write_answer (Written.Records records keyBytes) = record { number = 0; place = 0; records = records; key_bytes = keyBytes }
-write_answer (Written.Refused r) = record { number = (numbered r).number; place = (numbered r).first; records = 0; key_bytes = 0 }
+abbrev pub write_answer : Result Written Refusal → WriteAnswer
+write_answer (Ok a) = record { number = 0; place = 0; records = a.records; key_bytes = a.key_bytes }
+write_answer (Err r) = record { number = (numbered r).number; place = (numbered r).first; records = 0; key_bytes = 0 }
 
 -- R-3: how many bytes the script has
-abbrev pub script_answer : ScriptWritten → ScriptAnswer
-script_answer (ScriptWritten.Script bytes) = record { number = 0; place = 0; script_bytes = bytes }
-script_answer (ScriptWritten.Refused r) = record { number = (numbered r).number; place = (numbered r).first; script_bytes = 0 }
+abbrev pub script_answer : Result ℕ Refusal → ScriptAnswer
+script_answer (Ok bytes) = record { number = 0; place = 0; script_bytes = bytes }
+script_answer (Err r) = record { number = (numbered r).number; place = (numbered r).first; script_bytes = 0 }
 
 -- "Decode the code length and the tail's start"; `place` is refusal 9's token
-abbrev pub decode_answer : Decoded → DecodeAnswer
-decode_answer (Decoded.Code bytes start) = record { number = 0; place = 0; code_bytes = bytes; start = start }
-decode_answer (Decoded.Refused r) = record { number = (numbered r).number; place = (numbered r).first; code_bytes = 0; start = 0 }
+abbrev pub decode_answer : Result Decoded Refusal → DecodeAnswer
+decode_answer (Ok a) = record { number = 0; place = 0; code_bytes = a.bytes; start = a.start }
+decode_answer (Err r) = record { number = (numbered r).number; place = (numbered r).first; code_bytes = 0; start = 0 }
 
 -- the struct that Decode gives back says that the code b was accepted, with the tail's start n, and b stands at the front of the buffer
 abbrev pub AnswerAccepts : DecodeAnswer → List ℕ → List ℕ → ℕ → Type 0

@@ -4,11 +4,12 @@
 ghost use Rattle.std.specs.Prelude.{◌≡◌};
 ghost use Rattle.answers.specs.Answers.{check_answer, decode_answer, script_answer, verdict_answer, write_answer};
 
-use semantics::{Checked, Decoded, ScriptWritten, Verdict, Written};
+use refusals::number_of;
+use semantics::{Checked, Decoded, Refusal, Written};
 
 // `covenant_checked`
 #[repr(C)]
-#[derive(Clone, Copy)]
+#[derive(Clone, Copy, Debug, PartialEq, Eq)]
 pub struct CheckAnswer {
     pub number: u32,
     pub place: u64,
@@ -16,7 +17,7 @@ pub struct CheckAnswer {
 
 // `covenant_evaluated`
 #[repr(C)]
-#[derive(Clone, Copy)]
+#[derive(Clone, Copy, Debug, PartialEq, Eq)]
 pub struct EvaluateAnswer {
     pub number: u32,
     pub verdict: u32,
@@ -28,7 +29,7 @@ pub struct EvaluateAnswer {
 
 // `covenant_written`
 #[repr(C)]
-#[derive(Clone, Copy)]
+#[derive(Clone, Copy, Debug, PartialEq, Eq)]
 pub struct WriteAnswer {
     pub number: u32,
     pub place: u64,
@@ -38,7 +39,7 @@ pub struct WriteAnswer {
 
 // `covenant_script_written`
 #[repr(C)]
-#[derive(Clone, Copy)]
+#[derive(Clone, Copy, Debug, PartialEq, Eq)]
 pub struct ScriptAnswer {
     pub number: u32,
     pub place: u64,
@@ -47,7 +48,7 @@ pub struct ScriptAnswer {
 
 // `covenant_decoded`
 #[repr(C)]
-#[derive(Clone, Copy)]
+#[derive(Clone, Copy, Debug, PartialEq, Eq)]
 pub struct DecodeAnswer {
     pub number: u32,
     pub place: u64,
@@ -56,16 +57,16 @@ pub struct DecodeAnswer {
 }
 
 // Of Check: `place` is the offset of refusal 2.
-pub fn check_answer(answer: Checked) -> CheckAnswer
+pub fn check_answer(answer: Result<Checked, Refusal>) -> CheckAnswer
     ensures { result ≡ check_answer answer }
 {
     match answer {
-        Checked::Passed { tokens, oracles } => CheckAnswer {
+        Ok(_) => CheckAnswer {
             number: 0,
             place: 0,
         },
-        Checked::Refused(r) => {
-            let refusal = refusals::number_of(r);
+        Err(r) => {
+            let refusal = number_of(r);
             CheckAnswer {
                 number: refusal.number,
                 place: refusal.first,
@@ -75,20 +76,20 @@ pub fn check_answer(answer: Checked) -> CheckAnswer
 }
 
 // Of Evaluate: the verdict is 1 or 0, and 0 with a refusal.
-pub fn verdict_answer(verdict: Verdict, checks: u64, left: u64) -> EvaluateAnswer
+pub fn verdict_answer(verdict: Result<bool, Refusal>, checks: u64, left: u64) -> EvaluateAnswer
     ensures { result ≡ verdict_answer verdict checks left }
 {
     match verdict {
-        Verdict::Is(holds) => EvaluateAnswer {
+        Ok(holds) => EvaluateAnswer {
             number: 0,
-            verdict: holds as u32,
+            verdict: u32::from(holds),
             first: 0,
             second: 0,
             checks,
             left,
         },
-        Verdict::Refused(r) => {
-            let n = refusals::number_of(r);
+        Err(r) => {
+            let n = number_of(r);
             EvaluateAnswer {
                 number: n.number,
                 verdict: 0,
@@ -102,18 +103,18 @@ pub fn verdict_answer(verdict: Verdict, checks: u64, left: u64) -> EvaluateAnswe
 }
 
 // Of Write: with a refusal no record and no key byte is reported.
-pub fn write_answer(answer: Written) -> WriteAnswer
+pub fn write_answer(answer: Result<Written, Refusal>) -> WriteAnswer
     ensures { result ≡ write_answer answer }
 {
     match answer {
-        Written::Records { records, key_bytes } => WriteAnswer {
+        Ok(written) => WriteAnswer {
             number: 0,
             place: 0,
-            records: records as u64,
-            key_bytes: key_bytes as u64,
+            records: written.records as u64,
+            key_bytes: written.key_bytes as u64,
         },
-        Written::Refused(r) => {
-            let n = refusals::number_of(r);
+        Err(r) => {
+            let n = number_of(r);
             WriteAnswer {
                 number: n.number,
                 place: n.first,
@@ -124,18 +125,18 @@ pub fn write_answer(answer: Written) -> WriteAnswer
     }
 }
 
-// Of Write Script: with a refusal no byte is reported.
-pub fn script_answer(answer: ScriptWritten) -> ScriptAnswer
+// Of Write Script, with the number of the script's bytes: with a refusal no byte is reported.
+pub fn script_answer(answer: Result<usize, Refusal>) -> ScriptAnswer
     ensures { result ≡ script_answer answer }
 {
     match answer {
-        ScriptWritten::Script(bytes) => ScriptAnswer {
+        Ok(bytes) => ScriptAnswer {
             number: 0,
             place: 0,
             script_bytes: bytes as u64,
         },
-        ScriptWritten::Refused(r) => {
-            let n = refusals::number_of(r);
+        Err(r) => {
+            let n = number_of(r);
             ScriptAnswer {
                 number: n.number,
                 place: n.first,
@@ -146,18 +147,18 @@ pub fn script_answer(answer: ScriptWritten) -> ScriptAnswer
 }
 
 // Of Decode: `place` is the token of refusal 9; with a refusal no code is reported.
-pub fn decode_answer(answer: Decoded) -> DecodeAnswer
+pub fn decode_answer(answer: Result<Decoded, Refusal>) -> DecodeAnswer
     ensures { result ≡ decode_answer answer }
 {
     match answer {
-        Decoded::Code { bytes, start } => DecodeAnswer {
+        Ok(decoded) => DecodeAnswer {
             number: 0,
             place: 0,
-            code_bytes: bytes as u64,
-            start: start as u64,
+            code_bytes: decoded.bytes as u64,
+            start: decoded.start as u64,
         },
-        Decoded::Refused(r) => {
-            let n = refusals::number_of(r);
+        Err(r) => {
+            let n = number_of(r);
             DecodeAnswer {
                 number: n.number,
                 place: n.first,

@@ -28,7 +28,8 @@ fn comparison_of(byte: u8) -> Command
     }
 }
 
-// The command that a byte stands for.
+// The command that a byte stands for; no `From`, since neither type is of this crate.
+#[tactic(auto, unfolding(semantics::specs::Code::command_of))]
 pub fn command_of(byte: u8) -> Command
     ensures { result ≡ command_of byte }
 {
@@ -65,20 +66,7 @@ pub fn command_of(byte: u8) -> Command
 pub fn is_known(command: Command) -> bool
     ensures { result ≡ known command }
 {
-    match command {
-        Command::Unknown => false,
-        Command::IdxConst => true,
-        Command::CurrIdx => true,
-        Command::Index(_) => true,
-        Command::Const => true,
-        Command::CurrInputIdx => true,
-        Command::Lookup(_) => true,
-        Command::Binary(_) => true,
-        Command::Unary(_) => true,
-        Command::PriceOracle1 => true,
-        Command::PriceOracle1W => true,
-        Command::Compare(_) => true,
-    }
+    command != Command::Unknown
 }
 
 // The number of operand bytes of a command.
@@ -86,18 +74,9 @@ pub fn width_of(command: Command) -> usize
     ensures { result ≡ (command_row command).width }
 {
     match command {
-        Command::Unknown => 0,
-        Command::IdxConst => 8,
-        Command::CurrIdx => 0,
-        Command::Index(_) => 0,
-        Command::Const => 8,
-        Command::CurrInputIdx => 0,
-        Command::Lookup(_) => 0,
-        Command::Binary(_) => 0,
-        Command::Unary(_) => 0,
-        Command::PriceOracle1 => 40,
-        Command::PriceOracle1W => 40,
-        Command::Compare(_) => 0,
+        Command::IdxConst | Command::Const => 8,
+        Command::PriceOracle1 | Command::PriceOracle1W => 40,
+        _ => 0,
     }
 }
 
@@ -159,7 +138,7 @@ fn compare_byte(op: CmpOp) -> u8
     }
 }
 
-// The byte of a command.
+// The byte of a command; no `From` either.
 pub fn byte_of(command: Command) -> u8
     ensures { result ≡ (command_row command).byte }
 {
@@ -180,7 +159,7 @@ pub fn byte_of(command: Command) -> u8
 }
 
 // A command, the place of its operand bytes, and the place of the command after it.
-#[derive(Clone, Copy)]
+#[derive(Clone, Copy, Debug, PartialEq, Eq)]
 pub struct Cursor {
     pub command: Command,
     pub operands: usize,

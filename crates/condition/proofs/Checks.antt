@@ -1,4 +1,5 @@
 -- What Check answers, by the walk: `checked_walk`.
+use Rattle.std.proofs.Common.{Result, Ok, Err}
 use Prim.Native.Nat.{ℕ, suc, ◌+◌, ◌≤◌}
 use mathlib.Core.Path.{◌≡◌, refl, sym, ap, ◌∙◌}
 use mathlib.Core.Bool.{Bool, true, false, cond}
@@ -10,7 +11,6 @@ use borrow.Author.Tests.{le-ltb, leb-false, leb-true, lt-ltb, ne_eqb}
 use lib.Dec.{leb, ltb}
 use lib.ListN.{length}
 use Rattle.semantics.specs.Refusals.{first_of, numbered, unless}
-use Rattle.semantics.specs.declared.Checked.{Checked}
 use Rattle.semantics.specs.declared.Refusal.{Refusal}
 use Rattle.semantics.specs.declared.Terminal.{Terminal}
 use Rattle.semantics.specs.Check.{answered, checked, condition, judged, judged_parsed, passed_unless}
@@ -21,8 +21,6 @@ use Rattle.semantics.specs.Token.{form}
 use Rattle.semantics.specs.Trees.{Arith, Expr, IdxExpr}
 use Rattle.summary.specs.declared.Rule.{Rule}
 use Rattle.summary.specs.declared.Summary.{Summary}
-use Rattle.condition.specs.declared.Examined.{Examined}
-use Rattle.condition.specs.declared.Walked.{Walked}
 use Rattle.condition.specs.Walk.{checked_as, counted, ended, examined, fold_terminals, judged_summary, judged_walk, refusal_of, ruled, told_unless, walked}
 use Rattle.condition.proofs.Trees.{Beside, Both, forgot, sides, summarised, summary, summary-oracles, summary-rule, summary-tokens}
 
@@ -105,9 +103,9 @@ checked_walk c = go (leb (length c) max_code) refl
     go false q = rw (q, lt-ltb max_code (length c) (leb-false (length c) max_code q))
 
 -- 1 to 5
-abbrev Early : Examined → Type 0
-Early (Examined.Passed s) = Unit {0}
-Early (Examined.Refused r) = (numbered r).number ≤ 5
+abbrev Early : Result Summary Refusal → Type 0
+Early (Ok s) = Unit {0}
+Early (Err r) = (numbered r).number ≤ 5
 
 examined_early : (c : List ℕ) → Early (examined c)
 unfolding examined
@@ -123,17 +121,17 @@ examined_early c = long (ltb max_code (length c))
     few true s = ruled s.rule s
     few false s = omega arith
 
-    ends : (w : Walked) → Early (judged_walk w)
-    ends (Walked.Refused at) = omega arith
-    ends (Walked.Ended s) = few (leb s.tokens max_tokens) s
+    ends : (w : Result Summary ℕ) → Early (judged_walk w)
+    ends (Err at) = omega arith
+    ends (Ok s) = few (leb s.tokens max_tokens) s
 
-    long : (b : Bool) → Early (cond b (Examined.Refused Refusal.CodeTooLong) (judged_walk (walked c)))
+    long : (b : Bool) → Early (cond b (Err Refusal.CodeTooLong) (judged_walk (walked c)))
     long true = omega arith
     long false = ends (walked c)
 
-pub refused_early : (c : List ℕ) (r : Refusal) → checked c ≡ Checked.Refused r → (numbered r).number ≤ 5
+pub refused_early : (c : List ℕ) (r : Refusal) → checked c ≡ Err r → (numbered r).number ≤ 5
 refused_early c r e = go (examined c) (examined_early c) (sym (checked_walk c) ∙ e)
   where
-    go : (x : Examined) → Early x → checked_as x ≡ Checked.Refused r → (numbered r).number ≤ 5
-    go (Examined.Passed s) h e = absurd (let z : ◌≡◌ {A = ℕ} 0 1 = cc in omega arith)
-    go (Examined.Refused q) h e = let k : q ≡ r = cc in rw (← k) h
+    go : (x : Result Summary Refusal) → Early x → checked_as x ≡ Err r → (numbered r).number ≤ 5
+    go (Ok s) h e = absurd (let z : ◌≡◌ {A = ℕ} 0 1 = cc in omega arith)
+    go (Err q) h e = let k : q ≡ r = cc in rw (← k) h

@@ -1,4 +1,5 @@
 -- Code that passes has a token for each command; and without lookups it has no index command, since a lookup alone takes an index away, and a comparison wants that none waits.
+use Rattle.std.proofs.Common.{Ok, Err}
 use Prim.Native.Nat.{ℕ, suc, ◌+◌, ◌≤◌}
 use mathlib.Core.Path.{◌≡◌, refl}
 use mathlib.Core.Bool.{Bool, true, false, cond, ◌&&◌}
@@ -18,7 +19,6 @@ use Rattle.semantics.proofs.Tests.{and_true}
 use Rattle.summary.specs.declared.Summary.{Summary}
 use Rattle.summary.specs.Step.{given}
 use Rattle.summary.proofs.Bounds.{some_token}
-use Rattle.condition.specs.declared.Walked.{Walked}
 use Rattle.condition.specs.Walk.{Passed, counts, ended, next, start, summary_step, walked}
 
 -- a command that takes no index and makes none
@@ -79,18 +79,18 @@ module _ (t : Summary) (n : Instruction) (ns : List Instruction) (at : ℕ) (s :
       }
 
   turn : (b : Bool) → passes c n.operands (counts s) ≡ b
-      → (ended (fold summary_step (Walk.going (at + suc (length n.operands)) (next c s)) ns) ≡ Walked.Ended t → Rest t ns (next c s))
-      → ended (fold summary_step (cond b (Walk.going (at + suc (length n.operands)) (next c s)) (Walk.refused at)) ns) ≡ Walked.Ended t
+      → (ended (fold summary_step (Walk.going (at + suc (length n.operands)) (next c s)) ns) ≡ Ok t → Rest t ns (next c s))
+      → ended (fold summary_step (cond b (Walk.going (at + suc (length n.operands)) (next c s)) (Walk.refused at)) ns) ≡ Ok t
       → Rest t (n ∷ ns) s
   turn true p later e = before p (later e)
   turn false p later e =
-      let q : Walked.Refused at ≡ Walked.Ended t = rw (refused-stays counts (λ d m r. next d r) ns at) at e in
+      let q : Err at ≡ Ok t = rw (refused-stays counts (λ d m r. next d r) ns at) at e in
       absurd (let z : ◌≡◌ {A = ℕ} 0 1 = cc in omega arith)
 
-rest : (t : Summary) (ns : List Instruction) (at : ℕ) (s : Summary) → ended (fold summary_step (Walk.going at s) ns) ≡ Walked.Ended t → Rest t ns s
+rest : (t : Summary) (ns : List Instruction) (at : ℕ) (s : Summary) → ended (fold summary_step (Walk.going at s) ns) ≡ Ok t → Rest t ns s
 rest t [] at s e = stop (eqb s.conditions 0) refl e
   where
-    stop : (b : Bool) → eqb s.conditions 0 ≡ b → cond b (Walked.Refused at) (Walked.Ended s) ≡ Walked.Ended t → Rest t [] s
+    stop : (b : Bool) → eqb s.conditions 0 ≡ b → cond b (Err at) (Ok s) ≡ Ok t → Rest t [] s
     stop true q e = absurd (let z : ◌≡◌ {A = ℕ} 0 1 = cc in omega arith)
     stop false q e =
         let k : s ≡ t = cc in

@@ -1,4 +1,5 @@
 -- Code that Check lets pass: what a loop over it knows at each command.
+use Rattle.std.proofs.Common.{Result, Ok, Err}
 use Prim.Native.Nat.{ℕ, suc, ◌+◌, ◌-◌, ◌≤◌, ◌<◌}
 use mathlib.Core.Path.{◌≡◌, refl, sym, ◌∙◌}
 use mathlib.Core.Bool.{Bool, true, false, cond, ◌&&◌}
@@ -22,40 +23,38 @@ use Rattle.summary.specs.declared.Summary.{Summary}
 use Rattle.summary.specs.Step.{given}
 use Rattle.summary.proofs.Bounds.{modest, oracles_grow, some_token}
 use Rattle.summary.proofs.Rows.{larger_most}
-use Rattle.condition.specs.declared.Examined.{Examined}
-use Rattle.condition.specs.declared.Walked.{Walked}
 use Rattle.condition.specs.Walk.{Passed, checked_as, counts, ended, examined, judged_walk, next, refusal_of, start, summary_step, told_unless, walked}
 use Rattle.condition.proofs.Checks.{checked_walk}
 use Rattle.condition.proofs.Steps.{walk_ends, walk_fails, walk_short, walk_takes, walk_from}
 
 -- code that passes is what the walk comes to
-pub passed : (c : List ℕ) (s : Summary) → examined c ≡ Examined.Passed s → Passed c (λ t. t ≡ s)
+pub passed : (c : List ℕ) (s : Summary) → examined c ≡ Ok s → Passed c (λ t. t ≡ s)
 unfolding examined
 passed c s e = long (ltb max_code (length c)) e
   where
-    ruled : (r : Option Refusal) (t : Summary) → told_unless (first_of (r ∷ [])) t ≡ Examined.Passed s → t ≡ s
+    ruled : (r : Option Refusal) (t : Summary) → told_unless (first_of (r ∷ [])) t ≡ Ok s → t ≡ s
     ruled none t q = cc
     ruled (some r) t q = absurd (let z : ◌≡◌ {A = ℕ} 0 1 = cc in omega arith)
 
-    few : (b : Bool) (t : Summary) → walked c ≡ Walked.Ended t → leb t.tokens max_tokens ≡ b
-        → told_unless (first_of (unless b Refusal.TooManyTokens ∷ refusal_of t.rule ∷ [])) t ≡ Examined.Passed s → Passed c (λ t. t ≡ s)
+    few : (b : Bool) (t : Summary) → walked c ≡ Ok t → leb t.tokens max_tokens ≡ b
+        → told_unless (first_of (unless b Refusal.TooManyTokens ∷ refusal_of t.rule ∷ [])) t ≡ Ok s → Passed c (λ t. t ≡ s)
     few true t w b q = record { last = t; walk = w; few = leb-true t.tokens max_tokens b; known = ruled (refusal_of t.rule) t q }
     few false t w b q = absurd (let z : ◌≡◌ {A = ℕ} 0 1 = cc in omega arith)
 
-    ends : (w : Walked) → walked c ≡ w → judged_walk w ≡ Examined.Passed s → Passed c (λ t. t ≡ s)
-    ends (Walked.Refused at) w q = absurd (let z : ◌≡◌ {A = ℕ} 0 1 = cc in omega arith)
-    ends (Walked.Ended t) w q = few (leb t.tokens max_tokens) t w refl q
+    ends : (w : Result Summary ℕ) → walked c ≡ w → judged_walk w ≡ Ok s → Passed c (λ t. t ≡ s)
+    ends (Err at) w q = absurd (let z : ◌≡◌ {A = ℕ} 0 1 = cc in omega arith)
+    ends (Ok t) w q = few (leb t.tokens max_tokens) t w refl q
 
-    long : (b : Bool) → cond b (Examined.Refused Refusal.CodeTooLong) (judged_walk (walked c)) ≡ Examined.Passed s → Passed c (λ t. t ≡ s)
+    long : (b : Bool) → cond b (Err Refusal.CodeTooLong) (judged_walk (walked c)) ≡ Ok s → Passed c (λ t. t ≡ s)
     long true q = absurd (let z : ◌≡◌ {A = ℕ} 0 1 = cc in omega arith)
     long false q = ends (walked c) refl q
 
 -- what is known of code that passes is what Check tells of it
-pub told : (c : List ℕ) (x : Examined) → examined c ≡ x → checked c ≡ checked_as x
+pub told : (c : List ℕ) (x : Result Summary Refusal) → examined c ≡ x → checked c ≡ checked_as x
 told c x e = rw (checked_walk c, e)
 
 -- what holds of its summary holds of the code
-pub passed_with : {Known : Summary → Type 0} (c : List ℕ) (s : Summary) → examined c ≡ Examined.Passed s → Known s → Passed c Known
+pub passed_with : {Known : Summary → Type 0} (c : List ℕ) (s : Summary) → examined c ≡ Ok s → Known s → Passed c Known
 passed_with {Known = Known} c s e k =
     let p = passed c s e in record { last = p.last; walk = p.walk; few = p.few; known = rw p.known k }
 
@@ -71,11 +70,11 @@ pub record SoFar (s t : Summary) : Type 0 where
   pub most : s.most ≤ t.most
   pub lookups : s.lookups ≤ t.lookups
 
-grows : (ns : List Instruction) (at : ℕ) (s t : Summary) → ended (fold summary_step (Walk.going at s) ns) ≡ Walked.Ended t
+grows : (ns : List Instruction) (at : ℕ) (s t : Summary) → ended (fold summary_step (Walk.going at s) ns) ≡ Ok t
     → SoFar s t
 grows [] at s t e = stop (eqb s.conditions 0) e
   where
-    stop : (b : Bool) → cond b (Walked.Refused at) (Walked.Ended s) ≡ Walked.Ended t → SoFar s t
+    stop : (b : Bool) → cond b (Err at) (Ok s) ≡ Ok t → SoFar s t
     stop true e = absurd (let z : ◌≡◌ {A = ℕ} 0 1 = cc in omega arith)
     stop false e = let q : s ≡ t = cc in rw q (record { tokens = omega arith; oracles = omega arith; rest = omega arith; most = omega arith; lookups = omega arith })
 grows (n ∷ ns) at s t e =
@@ -95,29 +94,29 @@ grows (n ∷ ns) at s t e =
         }
 
     go : (c : Command) (b : Bool)
-        → (ended (fold summary_step (Walk.going (at + suc (length n.operands)) (next c s)) ns) ≡ Walked.Ended t → SoFar s t)
-        → ended (fold summary_step (cond b (Walk.going (at + suc (length n.operands)) (next c s)) (Walk.refused at)) ns) ≡ Walked.Ended t
+        → (ended (fold summary_step (Walk.going (at + suc (length n.operands)) (next c s)) ns) ≡ Ok t → SoFar s t)
+        → ended (fold summary_step (cond b (Walk.going (at + suc (length n.operands)) (next c s)) (Walk.refused at)) ns) ≡ Ok t
         → SoFar s t
     go c true later e = later e
     go c false later e =
-        let q : Walked.Refused at ≡ Walked.Ended t = rw (refused-stays counts (λ d m r. next d r) ns at) at e in
+        let q : Err at ≡ Ok t = rw (refused-stays counts (λ d m r. next d r) ns at) at e in
         absurd (let z : ◌≡◌ {A = ℕ} 0 1 = cc in omega arith)
 
 -- the command at a position passes
 pub record Onward (c : List ℕ) (at : ℕ) (s t : Summary) : Type 0 where
   pub operands : at + 1 + (command_row (command_at c at)).width ≤ length c
   pub met : need_met (command_row (command_at c at)) s.values s.indexes ≡ true
-  pub walk : walk_from c (after c at) (next (command_at c at) s) ≡ Walked.Ended t
+  pub walk : walk_from c (after c at) (next (command_at c at) s) ≡ Ok t
 
-module _ (c : List ℕ) (at : ℕ) (s t : Summary) (ends : walk_from c at s ≡ Walked.Ended t) where
+module _ (c : List ℕ) (at : ℕ) (s t : Summary) (ends : walk_from c at s ≡ Ok t) where
   abbrev width : ℕ
   width = (command_row (command_at c at)).width
 
   abbrev need : Bool
   need = need_met (command_row (command_at c at)) s.values s.indexes
 
-  refuted : walk_from c at s ≡ Walked.Refused at → ⊥
-  refuted e = let q : Walked.Refused at ≡ Walked.Ended t = sym e ∙ ends in let z : ◌≡◌ {A = ℕ} 0 1 = cc in omega arith
+  refuted : walk_from c at s ≡ Err at → ⊥
+  refuted e = let q : Err at ≡ Ok t = sym e ∙ ends in let z : ◌≡◌ {A = ℕ} 0 1 = cc in omega arith
 
   -- the code does not end before its comparison
   pub inside : s.conditions ≡ 0 → at < length c
@@ -153,10 +152,10 @@ few_oracles c p = let f = so_far c 0 start p.last p.walk in omega (arith, f.rest
 
 -- each operand that waits has a token, and so has the comparison
 waits_in_tokens : (ns : List Instruction) (at : ℕ) (s t : Summary) → s.values + s.indexes ≤ s.most → s.most + s.conditions ≤ s.tokens
-    → ended (fold summary_step (Walk.going at s) ns) ≡ Walked.Ended t → t.most < t.tokens
+    → ended (fold summary_step (Walk.going at s) ns) ≡ Ok t → t.most < t.tokens
 waits_in_tokens [] at s t w m e = stop (eqb s.conditions 0) refl e
   where
-    stop : (b : Bool) → eqb s.conditions 0 ≡ b → cond b (Walked.Refused at) (Walked.Ended s) ≡ Walked.Ended t → t.most < t.tokens
+    stop : (b : Bool) → eqb s.conditions 0 ≡ b → cond b (Err at) (Ok s) ≡ Ok t → t.most < t.tokens
     stop true q e = absurd (let z : ◌≡◌ {A = ℕ} 0 1 = cc in omega arith)
     stop false q e = let k : s ≡ t = cc in rw (← k) (omega (arith, m, eqb-false s.conditions 0 q))
 waits_in_tokens (n ∷ ns) at s t w m e =
@@ -165,8 +164,8 @@ waits_in_tokens (n ∷ ns) at s t w m e =
   where
     go : (c : Command) (b : Bool) → passes c n.operands (counts s) ≡ b
         → ((next c s).values + (next c s).indexes ≤ (next c s).most → (next c s).most + (next c s).conditions ≤ (next c s).tokens
-        → ended (fold summary_step (Walk.going (at + suc (length n.operands)) (next c s)) ns) ≡ Walked.Ended t → t.most < t.tokens)
-        → ended (fold summary_step (cond b (Walk.going (at + suc (length n.operands)) (next c s)) (Walk.refused at)) ns) ≡ Walked.Ended t
+        → ended (fold summary_step (Walk.going (at + suc (length n.operands)) (next c s)) ns) ≡ Ok t → t.most < t.tokens)
+        → ended (fold summary_step (cond b (Walk.going (at + suc (length n.operands)) (next c s)) (Walk.refused at)) ns) ≡ Ok t
         → t.most < t.tokens
     go c true p later e =
         let size = eqb (length n.operands) (command_row c).width in
@@ -179,7 +178,7 @@ waits_in_tokens (n ∷ ns) at s t w m e =
         let top = l.2 (s.most + a) (omega arith) (omega (arith, w)) in
         later l.1 (omega (arith, m, top, g, one)) e
     go c false p later e =
-        let q : Walked.Refused at ≡ Walked.Ended t = rw (refused-stays counts (λ d m r. next d r) ns at) at e in
+        let q : Err at ≡ Ok t = rw (refused-stays counts (λ d m r. next d r) ns at) at e in
         absurd (let z : ◌≡◌ {A = ℕ} 0 1 = cc in omega arith)
 
 pub few_wait : {Known : Summary → Type 0} (c : List ℕ) (p : Passed c Known) → p.last.most < max_tokens

@@ -1,4 +1,5 @@
 -- A position in code that Check let pass, after so many commands.
+use Rattle.std.proofs.Common.{Ok, Err}
 use Prim.Native.Nat.{ℕ, zero, suc, ◌+◌, ◌≤◌, ◌<◌}
 use mathlib.Core.Bool.{true}
 use mathlib.Core.Path.{◌≡◌, refl, sym, ◌∙◌}
@@ -9,7 +10,6 @@ use Rattle.semantics.specs.Code.{known}
 use Rattle.summary.specs.declared.Summary.{Summary}
 use Rattle.summary.proofs.Bounds.{some_token}
 use Rattle.summary.proofs.Rows.{larger_most}
-use Rattle.condition.specs.declared.Walked.{Walked}
 use Rattle.condition.specs.Walk.{next, start, walked}
 use Rattle.condition.proofs.Onward.{Onward, onward, so_far}
 use Rattle.condition.proofs.Steps.{walk_follows, walk_from}
@@ -18,11 +18,11 @@ use Rattle.semantics.proofs.Instructions.{need-known}
 
 -- what is known of the commands before it is `here`, and of all of them `last`
 pub record Position (code : List ℕ) (last here : Summary) (at count : ℕ) : Type 0 where
-  pub walk : walk_from code at here ≡ Walked.Ended last
+  pub walk : walk_from code at here ≡ Ok last
   pub few : count ≤ here.tokens
   pub waits : here.values + here.indexes ≤ here.most
 
-pub position_start : (code : List ℕ) (last : Summary) → walked code ≡ Walked.Ended last → Position code last start 0 0
+pub position_start : (code : List ℕ) (last : Summary) → walked code ≡ Ok last → Position code last start 0 0
 unfolding walked
 position_start code last e = record { walk = e; few = omega arith; waits = omega arith }
 
@@ -34,7 +34,7 @@ module _ (code : List ℕ) (last here : Summary) (at count : ℕ) (a : Position 
       none : (n : ℕ) → here.conditions ≡ n → n ≡ 0
       none zero e = refl
       none (suc n) e =
-          let q : Walked.Refused at ≡ Walked.Ended last = sym (walk_follows code at inside here (λ z. omega arith)) ∙ a.walk in
+          let q : Err at ≡ Ok last = sym (walk_follows code at inside here (λ z. omega arith)) ∙ a.walk in
           absurd (let z : ◌≡◌ {A = ℕ} 0 1 = cc in omega arith)
 
   pub position_known : known (command_at code at) ≡ true

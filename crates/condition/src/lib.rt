@@ -9,15 +9,8 @@ ghost use Rattle.condition.specs.Walk.{examined, judged_summary, walked};
 use semantics::{Checked, MAX_CODE, MAX_TOKENS, Refusal};
 use summary::{Rule, Stepped, Summary};
 
-// Where code stops being well formed, or what is known of well-formed code.
-#[derive(Clone, Copy)]
-pub enum Walked {
-    Refused(usize),
-    Ended(Summary),
-}
-
-// Whether code is well formed, and what is known of it then.
-fn walk(code: &[u8]) -> Walked
+// What is known of well-formed code, or where it stops being well formed.
+fn walk(code: &[u8]) -> Result<Summary, usize>
     requires { length code.now ≤ max_code }
     ensures { result ≡ walked code.now }
 {
@@ -32,71 +25,61 @@ fn walk(code: &[u8]) -> Walked
         lookups: 0,
         most: 0,
     };
+    // a summary says itself where the next command stands
     while s.bytes < code.len() {
         let at = s.bytes;
         match summary::step(code[at], code.len(), s) {
-            Stepped::Onward(next) => {
+            Some(Stepped::Onward(next)) => {
                 s = next;
             }
-            Stepped::Compared(last) => {
+            Some(Stepped::Compared(last)) => {
                 if last.bytes < code.len() {
-                    return Walked::Refused(last.bytes);
+                    return Err(last.bytes);
                 }
-                return Walked::Ended(last);
+                return Ok(last);
             }
-            Stepped::Failed => {
-                return Walked::Refused(at);
+            None => {
+                return Err(at);
             }
         }
     }
-    Walked::Refused(s.bytes)
-}
-
-// Why a condition is refused, or what is known of it.
-#[derive(Clone, Copy)]
-pub enum Examined {
-    Passed(Summary),
-    Refused(Refusal),
+    Err(s.bytes)
 }
 
 // Refusals 3 to 5, or the summary of a condition that none falls on.
-fn judge(s: Summary) -> Examined
+fn judge(s: Summary) -> Result<Summary, Refusal>
     ensures { result ≡ judged_summary s }
 {
     if MAX_TOKENS < s.tokens as usize {
-        return Examined::Refused(Refusal::TooManyTokens);
+        return Err(Refusal::TooManyTokens);
     }
-    let rule = s.rule;
-    match rule {
-        Rule::Unseen => Examined::Passed(s),
-        Rule::Kept => Examined::Passed(s),
-        Rule::WFirst => Examined::Refused(Refusal::PriceOracle1WFirst),
-        Rule::Missing => Examined::Refused(Refusal::PriceOracle1Missing),
+    match s.rule {
+        Rule::Unseen | Rule::Kept => Ok(s),
+        Rule::WFirst => Err(Refusal::PriceOracle1WFirst),
+        Rule::Missing => Err(Refusal::PriceOracle1Missing),
     }
 }
 
 // The refusals 1 to 5 in their order, or the summary of a condition that passes.
-pub fn examine(code: &[u8]) -> Examined
+#[tactic(auto, unfolding(crate::specs::Walk::examined))]
+pub fn examine(code: &[u8]) -> Result<Summary, Refusal>
     ensures { result ≡ examined code.now }
 {
     if MAX_CODE < code.len() {
-        return Examined::Refused(Refusal::CodeTooLong);
+        return Err(Refusal::CodeTooLong);
     }
-    match walk(code) {
-        Walked::Refused(at) => Examined::Refused(Refusal::NotWellFormed(at)),
-        Walked::Ended(s) => judge(s),
-    }
+    let s = walk(code).map_err(Refusal::NotWellFormed)?;
+    judge(s)
 }
 
 // The refusals 1 to 5 in their order, or what the other calls need to know of a condition that passes.
-pub fn check(code: &[u8]) -> Checked
+#[tactic(auto, using(crate::proofs::Checks::checked_walk))]
+pub fn check(code: &[u8]) -> Result<Checked, Refusal>
     ensures { result ≡ checked code.now }
 {
-    match examine(code) {
-        Examined::Passed(s) => Checked::Passed {
-            tokens: s.tokens as usize,
-            oracles: s.oracles,
-        },
-        Examined::Refused(r) => Checked::Refused(r),
-    }
+    let s = examine(code)?;
+    Ok(Checked {
+        tokens: s.tokens as usize,
+        oracles: s.oracles,
+    })
 }

@@ -1,7 +1,6 @@
 -- Laws of the pass in specs/Marks.antt, one file a subject.
 pub mod Narrow
 pub mod Waiting
-pub mod Turns
 pub mod Pass
 pub mod Unmarked
 pub mod Arrays

@@ -5,9 +5,8 @@ use mathlib.Core.List.{List, [], ◌∷◌}
 use Rattle.semantics.specs.declared.AmountList.{AmountList}
 use Rattle.semantics.specs.declared.BinOp.{BinOp}
 use Rattle.semantics.specs.declared.CmpOp.{CmpOp}
-use Rattle.semantics.specs.declared.IdxOp.{IdxOp}
 use Rattle.semantics.specs.declared.UnOp.{UnOp}
-use Rattle.semantics.specs.Operations.{bin_row, cmp_row, idx_row, list_row, un_row}
+use Rattle.semantics.specs.Operations.{bin_row, cmp_row, list_row, un_row}
 use Rattle.semantics.specs.Parse.{Instruction, fold}
 use Rattle.semantics.specs.Token.{narrow}
 use Rattle.conversions.specs.Marks.{narrow_step}
@@ -15,9 +14,6 @@ use Rattle.conversions.specs.Marks.{narrow_step}
 pub and_end : (b : Bool) → (b && true) ≡ b
 and_end true = refl
 and_end false = refl
-
-pub idx_narrow : (o : IdxOp) → narrow (idx_row o).form ≡ true
-idx_narrow o = elim o as (λ o. narrow (idx_row o).form ≡ true) [ IdxOp.Add ↦ refl | IdxOp.Sub ↦ refl | IdxOp.Mul ↦ refl | IdxOp.Div ↦ refl ]
 
 pub list_narrow : (l : AmountList) → narrow (list_row l).form ≡ true
 list_narrow l = elim l as (λ l. narrow (list_row l).form ≡ true) [ AmountList.Input ↦ refl | AmountList.Output ↦ refl | AmountList.InputIssue ↦ refl | AmountList.InputReIssue ↦ refl ]

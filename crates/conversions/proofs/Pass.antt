@@ -1,4 +1,5 @@
 -- The pass that marks the commands: what its loop keeps, and what it comes to.
+use Rattle.std.proofs.Common.{Ok}
 use Prim.Native.Nat.{ℕ, ◌+◌, ◌≤◌, ◌<◌}
 use mathlib.Core.Bool.{Bool, true, false}
 use mathlib.Core.Path.{◌≡◌, refl, sym, ap, ◌∙◌, subst}
@@ -90,13 +91,10 @@ loop_start code lookups waiting marks p =
     }
 
 module _ (code : List ℕ) (lookups room size : ℕ) (waiting : List ℕ) (marks : List Bool) (at count indexes : ℕ) (l : Loop code lookups room size waiting marks at count indexes) where
-  pub loop_found : length code ≤ at → Found code marks true
+  pub loop_found : length code ≤ at → Found code marks (Ok tt)
   loop_found h =
       let t : take count marks ≡ marks_of code = sym (ap (λ (s : Marking). s.marks) (fold-ends mark_step code at h (marking_in waiting indexes marks count))) ∙ l.runs in
-      record {
-        narrow_is = sym (fold-ends narrow_step code at h true) ∙ l.narrow;
-        marked = λ e. rw (← t, length-take-le count marks l.passed) (sym (take-append-drop count marks));
-      }
+      (sym l.narrow ∙ fold-ends narrow_step code at h true, rw (← t, length-take-le count marks l.passed) (sym (take-append-drop count marks)))
 
   module _ (inside : at < length code) where
     abbrev command : Command
@@ -124,16 +122,13 @@ module _ (code : List ℕ) (lookups room size : ℕ) (waiting : List ℕ) (marks
         }
 
     -- 6 turns the command down
-    pub loop_refused : (any : List Bool) → false ≡ narrow ((command_row command).tokens (operands_at code at)) → Found code any false
-    loop_refused any e =
-        let w = sym l.narrow ∙ fold_takes narrow_step code at inside true ∙ ap (λ (b : Bool). fold narrow_step b (instructions (drop (after code at) code))) (sym e) in
-        record {
-          narrow_is = sym (w ∙ narrow-stays (instructions (drop (after code at) code)));
-          marked = λ z. absurd (let q : ◌≡◌ {A = ℕ} 0 1 = cc in omega arith);
-        }
+    pub loop_refused : narrow ((command_row command).tokens (operands_at code at)) ≡ false → narrow_code code ≡ false
+    loop_refused e =
+        let w = sym l.narrow ∙ fold_takes narrow_step code at inside true ∙ ap (λ (b : Bool). fold narrow_step b (instructions (drop (after code at) code))) e in
+        w ∙ narrow-stays (instructions (drop (after code at) code))
 
     -- one turn, by what `step` promises
-    pub loop_next : true ≡ narrow ((command_row command).tokens (operands_at code at)) → (waiting' : List ℕ) (marks' : List Bool) (indexes' : ℕ)
+    pub loop_next : narrow ((command_row command).tokens (operands_at code at)) ≡ true → (waiting' : List ℕ) (marks' : List Bool) (indexes' : ℕ)
         → length waiting' ≡ length waiting → length marks' ≡ length marks
         → marking_in waiting' indexes' marks' count ≡ settled (marking_in waiting indexes marks count) command
         → Loop code lookups room size waiting' (set marks' count false) (after code at) (count + 1) indexes'
@@ -155,7 +150,7 @@ module _ (code : List ℕ) (lookups room size : ℕ) (waiting : List ℕ) (marks
           height = omega (arith, i, k.1, l.height, l.indexes_are);
           earlier = rw w (subst (λ (k : ℕ). All (λ i. i < k + 1) (settled old command).waiting) n (settled_earlier command old (rw n l.earlier)));
           narrow =
-              ap (λ (b : Bool). fold narrow_step b (instructions (drop (after code at) code))) e ∙ sym (fold_takes narrow_step code at inside true)
+              ap (λ (b : Bool). fold narrow_step b (instructions (drop (after code at) code))) (sym e) ∙ sym (fold_takes narrow_step code at inside true)
               ∙ l.narrow;
           runs =
               rw (w, m) (ap (λ (g : Marking). g.marks) (sym (fold_takes mark_step code at inside old)) ∙ l.runs);

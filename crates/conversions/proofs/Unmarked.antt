@@ -1,4 +1,5 @@
 -- Code without lookups: no command is marked, and 6 does not fall on it.
+use Rattle.std.proofs.Common.{Ok}
 use Prim.Native.Nat.{ℕ, ◌+◌, ◌-◌}
 use mathlib.Core.Bool.{Bool, true, false}
 use mathlib.Core.Path.{◌≡◌, refl, sym, ap, ◌∙◌}
@@ -60,9 +61,9 @@ module _ (code : List ℕ) (marks : List Bool) (lookups waiting : ℕ) (p : Pass
   unfolding marks_of
   marks_are = none_marked (instructions code) none unmarked
 
-  pub found-unmarked : Unmarked marks → Found code marks true
-  found-unmarked u =
+  pub found_unmarked : Unmarked marks → Found code marks (Ok tt)
+  found_unmarked u =
       let size : commands + (length marks - commands) ≡ length marks = omega (arith, few_commands code p, p.known.2) in
       let whole : marks ≡ marks_of code ++ replicate (length marks - commands) false =
       u ∙ ap (λ (n : ℕ). replicate n false) (sym size) ∙ rw marks_are (sym (replicate-append-replicate commands (length marks - commands) false)) in
-      record { narrow_is = sym narrow-code; marked = λ z. front marks (marks_of code) _ whole }
+      (narrow-code, front marks (marks_of code) _ whole)

@@ -1,5 +1,5 @@
 -- Which commands are marked, by one pass over the commands with the index operands that wait; and refusal 6 by the same pass.
-use Rattle.std.specs.Prelude.{ℕ, ◌<◌, ◌≤◌, Bool, true, false, ◌&&◌, cond, ◌≡◌, List, [], ◌∷◌, ◌++◌, eqb, ltb, length, get_or, take, drop, set, replicate}
+use Rattle.std.specs.Prelude.{ℕ, ◌<◌, ◌≤◌, Bool, true, false, ◌&&◌, cond, ◌≡◌, List, [], ◌∷◌, ◌++◌, eqb, ltb, length, get_or, take, drop, set, replicate, Option, Some, None, Result, Ok, Err, ⊤}
 use Rattle.slices.specs.Stack.{stack_of}
 use Rattle.slices.specs.Bytes.{All}
 use Rattle.semantics.specs.declared.Command.{Command}
@@ -7,6 +7,7 @@ use Rattle.semantics.specs.Code.{Made, command_row, need_met, max_tokens}
 use Rattle.semantics.specs.Parse.{after, command_at, fold, instructions, operands_at}
 use Rattle.semantics.specs.Token.{narrow}
 use Rattle.summary.specs.declared.Summary.{Summary}
+use Rattle.semantics.specs.declared.Refusal.{Refusal}
 use Rattle.conversions.specs.declared.Turn.{Turn}
 
 -- whether a command has a token between its operands' tokens, which is SCRIPTNUMTOLE64
@@ -70,11 +71,11 @@ pub record Ready (c : Command) (count indexes : ℕ) (waiting : List ℕ) (marks
   pub earlier : All (λ k. k < count) (stack_in waiting indexes)
 
 -- what one command does: the next stands after it, and it settles the state; or 6 turns it down
-abbrev pub Turned : List ℕ → ℕ → Marking → List ℕ → List Bool → ℕ → Turn → Type 0
-Turned code at old waiting marks count (Turn.On next indexes) =
-    (narrow ((command_row (command_at code at)).tokens (operands_at code at)) ≡ true) × (next ≡ after code at)
-    × (marking_in waiting indexes marks count ≡ settled old (command_at code at))
-Turned code at old waiting marks count Turn.TooLarge = narrow ((command_row (command_at code at)).tokens (operands_at code at)) ≡ false
+abbrev pub Turned : List ℕ → ℕ → Marking → List ℕ → List Bool → ℕ → Option Turn → Type 0
+Turned code at old waiting marks count (Some t) =
+    (narrow ((command_row (command_at code at)).tokens (operands_at code at)) ≡ true) × (t.next ≡ after code at)
+    × (marking_in waiting t.indexes marks count ≡ settled old (command_at code at))
+Turned code at old waiting marks count None = narrow ((command_row (command_at code at)).tokens (operands_at code at)) ≡ false
 
 -- of code with so many lookups, for whose tokens there is room
 abbrev pub Fits : ℕ → ℕ → ℕ → Summary → Type 0
@@ -84,7 +85,7 @@ Fits lookups waiting marks s = (s.lookups ≡ lookups) × (s.tokens ≤ waiting)
 abbrev pub Unmarked : List Bool → Type 0
 Unmarked marks = marks ≡ replicate (length marks) false
 
--- what the pass finds: whether 6 lets the code pass, and then the marks of its commands at the front of the array
-pub record Found (code : List ℕ) (marks : List Bool) (narrow : Bool) : Type 0 where
-  pub narrow_is : narrow ≡ narrow_code code
-  pub marked : narrow ≡ true → marks ≡ marks_of code ++ drop (length (marks_of code)) marks
+-- what the pass finds: 6 lets the code pass, and the marks of its commands stand at the front of the array; or 6 turns it down
+abbrev pub Found : List ℕ → List Bool → Result ⊤ Refusal → Type 0
+Found code marks (Ok _) = (narrow_code code ≡ true) × (marks ≡ marks_of code ++ drop (length (marks_of code)) marks)
+Found code marks (Err r) = (r ≡ Refusal.IndexConstTooLarge) × (narrow_code code ≡ false)

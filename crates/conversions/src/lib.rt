@@ -10,7 +10,7 @@ ghost use Rattle.conversions.specs.Marks.{Fits, Found, Ready, Turned, Unmarked, 
 ghost use Rattle.semantics.specs.Parse.{after, command_at};
 ghost use Rattle.condition.specs.Walk.{Passed};
 
-use semantics::{Command, IdxOp};
+use semantics::{Command, IdxOp, Refusal};
 
 // A Num holds less: 2^32.
 const NUM_LIMIT: u64 = 4294967296;
@@ -19,15 +19,11 @@ const NUM_LIMIT: u64 = 4294967296;
 fn converts_left(op: IdxOp) -> bool
     ensures { result ≡ converts (Command.Index op) }
 {
-    match op {
-        IdxOp::Add => false,
-        IdxOp::Sub => false,
-        IdxOp::Mul => true,
-        IdxOp::Div => true,
-    }
+    matches!(op, IdxOp::Mul | IdxOp::Div)
 }
 
 // The command that comes after `count` others ends an index, on top of so many that wait.
+#[tactic(auto, using(crate::proofs::Waiting::pushed))]
 fn push(count: usize, indexes: usize, waiting: &mut [u16]) -> usize
     requires { (count < max_tokens) × (indexes < length waiting.old) }
     ensures { stack_in waiting.new result ≡ count ∷ stack_in waiting.old indexes }
@@ -52,14 +48,14 @@ fn operate(
     push(count, indexes - 2, waiting)
 }
 
-// After a command: where the next one stands, and how many index operands wait; or refusal 6 falls on it.
+// After a command: where the next one stands, and how many index operands wait.
 #[derive(Clone, Copy)]
-pub enum Turn {
-    On(usize, usize),
-    TooLarge,
+struct Turn {
+    next: usize,
+    indexes: usize,
 }
 
-// The command at a place, after `count` others. It is read and told apart in one function, which the compiler makes one table of.
+// The command at a place, after `count` others, unless refusal 6 falls on it. It is read and told apart in one function, which the compiler makes one table of.
 fn step(
     code: &[u8],
     at: usize,
@@ -67,57 +63,63 @@ fn step(
     indexes: usize,
     waiting: &mut [u16],
     marks: &mut [bool],
-) -> Turn
+) -> Option<Turn>
     requires { (after code.now at ≤ length code.now) × Ready (command_at code.now at) count indexes waiting.old marks.old }
     ensures { Turned code.now at (marking_in waiting.old indexes marks.old count) waiting.new marks.new count result }
 {
     let here = commands::next(code, at);
+    let next = here.next;
     let command = here.command;
     match command {
-        Command::Unknown => Turn::On(here.next, indexes),
         Command::IdxConst => {
             if NUM_LIMIT <= slices::read_le64(code, here.operands) {
-                return Turn::TooLarge;
+                return None;
             }
-            Turn::On(here.next, push(count, indexes, waiting))
+            let indexes = push(count, indexes, waiting);
+            Some(Turn { next, indexes })
         }
-        Command::CurrIdx => Turn::On(here.next, push(count, indexes, waiting)),
-        Command::Index(op) => Turn::On(here.next, operate(op, count, indexes, waiting, marks)),
-        Command::Const => Turn::On(here.next, indexes),
-        Command::CurrInputIdx => Turn::On(here.next, indexes),
-        Command::Lookup(_) => Turn::On(here.next, indexes - 1),
-        Command::Binary(_) => Turn::On(here.next, indexes),
-        Command::Unary(_) => Turn::On(here.next, indexes),
-        Command::PriceOracle1 => Turn::On(here.next, indexes),
-        Command::PriceOracle1W => Turn::On(here.next, indexes),
-        Command::Compare(_) => Turn::On(here.next, indexes),
+        Command::CurrIdx => {
+            let indexes = push(count, indexes, waiting);
+            Some(Turn { next, indexes })
+        }
+        Command::Index(op) => {
+            let indexes = operate(op, count, indexes, waiting, marks);
+            Some(Turn { next, indexes })
+        }
+        Command::Lookup(_) => {
+            let indexes = indexes - 1;
+            Some(Turn { next, indexes })
+        }
+        _ => Some(Turn { next, indexes }),
     }
 }
 
-// Marks the commands of a condition with so many lookups, and says whether refusal 6 lets them pass; without any there is no index command, and none to mark.
+// Marks the commands of a condition with so many lookups, or gives refusal 6; without any lookup there is no index command, and none to mark.
 // `waiting` has room for the index operands that wait.
-pub fn mark(code: &[u8], lookups: usize, waiting: &mut [u16], marks: &mut [bool]) -> bool
+pub fn mark(
+    code: &[u8],
+    lookups: usize,
+    waiting: &mut [u16],
+    marks: &mut [bool],
+) -> Result<(), Refusal>
     requires { Passed code.now (Fits lookups (length waiting.old) (length marks.old)) × Unmarked marks.old }
     ensures { Found code.now marks.new result }
 {
     if lookups == 0 {
-        return true;
+        return Ok(());
     }
     let mut at = 0;
     let mut count = 0;
     let mut indexes = 0;
+    // each command says itself where the next one stands
     while at < code.len() {
-        match step(code, at, count, indexes, waiting, marks) {
-            Turn::On(next, n) => {
-                at = next;
-                indexes = n;
-            }
-            Turn::TooLarge => {
-                return false;
-            }
-        }
+        let Some(turn) = step(code, at, count, indexes, waiting, marks) else {
+            return Err(Refusal::IndexConstTooLarge);
+        };
+        at = turn.next;
+        indexes = turn.indexes;
         marks[count] = false;
         count += 1;
     }
-    true
+    Ok(())
 }

@@ -14,6 +14,7 @@ ghost use Rattle.semantics.specs.Records.{records_of};
 ghost use Rattle.answers.specs.Answers.{AnswerAccepts, check_answer, decode_answer, evaluate_answer, script_answer, write_answer};
 ghost use Rattle.script.specs.WriteScript.{wrote_script};
 
+use amounts::{Amounts, Transaction};
 use answers::{CheckAnswer, DecodeAnswer, EvaluateAnswer, ScriptAnswer, WriteAnswer};
 
 // Check: `code` is lent and only read. Refusals 1 to 5.
@@ -43,21 +44,26 @@ pub fn covenant_evaluate(
     ensures value { result ≡ evaluate_answer (evaluated code.now (record { env = env_of spent.now spent_marks.now outputs.now output_marks.now issued.now issued_marks.now reissued.now reissued_marks.now current; witness = witness.now; ends = ends.now; buffer = checks.old })).answer }
     ensures checks_after { checks.new ≡ (evaluated code.now (record { env = env_of spent.now spent_marks.now outputs.now output_marks.now issued.now issued_marks.now reissued.now reissued_marks.now current; witness = witness.now; ends = ends.now; buffer = checks.old })).buffer }
 {
-    let answer = evaluation::evaluate(
-        code,
-        spent,
-        spent_marks,
-        outputs,
-        output_marks,
-        issued,
-        issued_marks,
-        reissued,
-        reissued_marks,
+    let transaction = Transaction {
+        spent: Amounts {
+            numbers: spent,
+            marks: spent_marks,
+        },
+        outputs: Amounts {
+            numbers: outputs,
+            marks: output_marks,
+        },
+        issued: Amounts {
+            numbers: issued,
+            marks: issued_marks,
+        },
+        reissued: Amounts {
+            numbers: reissued,
+            marks: reissued_marks,
+        },
         current,
-        witness,
-        ends,
-        checks,
-    );
+    };
+    let answer = evaluation::evaluate(code, &transaction, witness, ends, checks);
     let verdict = answer.verdict;
     answers::verdict_answer(verdict, answer.checks as u64, answer.left as u64)
 }

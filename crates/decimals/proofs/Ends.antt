@@ -1,16 +1,22 @@
--- A text that is written from its last character on.
-use Prim.Native.Nat.{ℕ, suc, ◌-◌, ◌/◌, ◌≤◌, ◌<◌}
-use mathlib.Core.Path.{◌≡◌, sym, ap, ◌∙◌}
+-- A text at the end of a buffer: one character more before it, and the text of a number.
+use Prim.Native.Nat.{ℕ, suc, ◌+◌, ◌-◌, ◌/◌, ◌%◌, ◌^◌, ◌≤◌, ◌<◌}
+use mathlib.Core.Bool.{true, false}
+use mathlib.Core.Path.{◌≡◌, refl, sym, ap, ap₂, ◌∙◌}
 use mathlib.Core.List.{List, [], ◌∷◌, ◌++◌, append-nil}
 use native.Mathlib.Omega.{arith}
-use lib.ListN.{length, get_or, set, take, length-append, length-set, length-take}
-use lib.Seq.{append_snoc, set_at, take-set-le, take-suc, take-length, length-take-le}
-use Rattle.decimals.specs.Decimal.{Ending, decimal, digit, digits}
+use lib.IntN.{ℤ, pos, negsuc}
+use lib.ListN.{length, get_or, set, take, drop, drop_of_length-le, length-append, length-take, take-append-drop}
+use mir.Syntax.{w64}
+use lib.Seq.{append_snoc, set_at, take-suc, length-take-le}
+use Rattle.std.specs.Prelude.{unsigned_abs}
+use Rattle.std.specs.Int.{is_negative}
+use Rattle.std.specs.Fmt.{decimal as library_decimal}
+use Rattle.std.proofs.Common.{rules}
+use Rattle.std.proofs.lemmas.Fmt.{decimal_by_steps}
+use Rattle.std.proofs.lemmas.Int.{of_z-to_z}
+use Rattle.word64.specs.Bits.{bits_of, signed_of}
+use Rattle.decimals.specs.Decimal.{Ending, decimal, digit, hyphen, signed}
 use Rattle.decimals.proofs.Digits.{digits_none, digits_some}
-
--- no text yet
-pub ending_none : (old : List ℕ) → Ending old [] old (length old)
-ending_none old = record { is = sym (append-nil (take (length old) old) ∙ take-length old); ends = omega arith }
 
 pub ending-length : {old text now : List ℕ} {start : ℕ} → Ending old text now start → length now ≡ length old
 ending-length {old} {text} {now} {start} e = rw e.is (simp (length-append, length-take) (omega (arith, e.ends)))
@@ -28,56 +34,62 @@ ending_more {old} {text} {now} {start} v e h =
       ends = omega (arith, e.ends);
     }
 
--- what stood where the text stands now does not matter
-set_under : {text now : List ℕ} {start : ℕ} (old : List ℕ) (i v : ℕ) → start ≤ i → Ending old text now start → Ending (set old i v) text now start
-set_under {text} {now} {start} old i v h e =
-    record { is = e.is ∙ ap (λ (xs : List ℕ). xs ++ text) (sym (take-set-le start old i v h)); ends = e.ends ∙ sym (length-set old i v) }
-
-set_off : {text now : List ℕ} {start : ℕ} (old : List ℕ) (i v : ℕ) → start ≤ i → Ending (set old i v) text now start → Ending old text now start
-set_off {text} {now} {start} old i v h e =
-    record { is = e.is ∙ ap (λ (xs : List ℕ). xs ++ text) (take-set-le start old i v h); ends = e.ends ∙ length-set old i v }
-
 -- ---- a number's digits
 
--- the digits of `rest` are yet to be written in front of what is there
-pub record Partly (n : ℕ) (old now : List ℕ) (start rest : ℕ) : Type 0 where
-  pub text : List ℕ
-  pub there : Ending old text now start
-  pub whole : digits rest ++ text ≡ decimal n
-
-module _ (n : ℕ) (old : List ℕ) (fits : length (decimal n) ≤ length old) where
-  pub some_room : 0 < length old
-  unfolding decimal
-  some_room = omega (arith, fits, length-append (digits (n / 10)) (digit n ∷ []))
-
-  -- the last one
-  pub partly_last : (v : ℕ) → v ≡ digit n → let with_last = set old (length old - 1) v in Partly n with_last with_last (length old - 1) (n / 10)
-  unfolding decimal
-  partly_last v e =
-      let last = length old - 1 in
-      record { text = v ∷ []; there = set_under old last v (omega arith) (ending_more v (ending_none old) some_room); whole = rw e }
-
-  module _ (now : List ℕ) (start rest : ℕ) (p : Partly n old now start rest) where
-    pub partly_room : 0 < rest → 0 < start
-    partly_room h =
-        let d = ap length (digits_some rest (λ z. omega arith)) ∙ length-append (digits (rest / 10)) (digit rest ∷ []) in
-        let w = sym (length-append (digits rest) p.text) ∙ ap length p.whole in
-        omega (arith, fits, p.there.ends, d, w)
-
-    pub partly_more : 0 < rest → (v : ℕ) → v ≡ digit rest → Partly n old (set now (start - 1) v) (start - 1) (rest / 10)
-    partly_more h v e =
-        let d = digits_some rest (λ z. omega arith) in
-        record {
-          text = v ∷ p.text;
-          there = ending_more v p.there (partly_room h);
-          whole = rw e (sym (append_snoc (digits (rest / 10)) (digit rest) p.text) ∙ ap (λ (ds : List ℕ). ds ++ p.text) (sym d) ∙ p.whole);
-        }
-
--- all of them, and the buffer as it was before the last one
-pub partly_all : (n : ℕ) (old now : List ℕ) (start rest v : ℕ) → Partly n (set old (length old - 1) v) now start rest → rest ≡ 0
-    → Ending old (decimal n) now start
+-- the library's text of a number is `decimal`
+pub decimal_is : (n : ℕ) → n < 2 ^ 64 → library_decimal n ≡ decimal n
 unfolding decimal
-partly_all n old now start rest v p z =
-    let e : p.text ≡ decimal n = rw (digits_none rest z) at p.whole in
-    let l = ap length e ∙ length-append (digits (n / 10)) (digit n ∷ []) in
-    rw (← e) (set_off old (length old - 1) v (omega (arith, l, p.there.ends, length-set old (length old - 1) v)) p.there)
+decimal_is n h = decimal_by_steps (λ k ds. ds ≡ decimal k) one more n h
+  where
+    one : (k : ℕ) → k < 10 → (48 + k) ∷ [] ≡ decimal k
+    one k l =
+        let r : k % 10 ≡ k = omega arith in
+        rw (digits_none (k / 10) (omega arith), r)
+
+    more : (k : ℕ) (ds : List ℕ) → 10 ≤ k → ds ≡ decimal (k / 10) → ds ++ (digit k ∷ []) ≡ decimal k
+    more k ds l e = rw (e, digits_some (k / 10) (λ z. omega arith))
+
+-- the text at the end, and before it what was there
+pub ending_decimal : (n : ℕ) (old now : List ℕ) (start : ℕ) → n < 2 ^ 64 → start + length (library_decimal n) ≡ length old
+    → drop start now ≡ library_decimal n ++ drop (length old) old → take start now ≡ take start old → Ending old (decimal n) now start
+ending_decimal n old now start h ends after before =
+    let d = decimal_is n h in
+    record {
+      is = sym (take-append-drop start now) ∙ ap₂ ◌++◌ before (after ∙ rw (drop_of_length-le old {i = length old} (omega arith), append-nil, d));
+      ends = rw d at ends;
+    }
+
+-- ---- a signed number's
+
+below : (z : ℤ) → is_negative z ≡ true → signed z ≡ hyphen ∷ decimal (unsigned_abs z)
+unfolding signed
+below (pos n) e = absurd (search (rules, e))
+below (negsuc n) e = refl
+
+above : (z : ℤ) → is_negative z ≡ false → signed z ≡ decimal (unsigned_abs z)
+unfolding signed
+above (pos n) e = refl
+above (negsuc n) e = absurd (search (rules, e))
+
+shorter : (z : ℤ) → length (decimal (unsigned_abs z)) ≤ length (signed z)
+unfolding signed
+shorter (pos n) = omega arith
+shorter (negsuc n) = omega arith
+
+-- z is given by its bits, and n is its amount
+module _ (bits : ℕ) (z : ℤ) {n : ℕ} (h : bits < 2 ^ 64) (is : z ≡ signed_of bits) (amount : n ≡ unsigned_abs (signed_of (bits_of z))) where
+  same : signed_of (bits_of z) ≡ signed_of bits
+  same = rw (is, of_z-to_z w64 bits h)
+
+  number : n ≡ unsigned_abs (signed_of bits)
+  number = amount ∙ ap unsigned_abs same
+
+  -- the hyphen is all that stands before its digits
+  pub digits_fit : length (decimal n) ≤ length (signed (signed_of bits))
+  digits_fit = rw number (shorter (signed_of bits))
+
+  pub signed_below : is_negative (signed_of (bits_of z)) ≡ true → signed (signed_of bits) ≡ hyphen ∷ decimal n
+  signed_below e = rw number (below (signed_of bits) (ap is_negative (sym same) ∙ e))
+
+  pub signed_above : is_negative (signed_of (bits_of z)) ≡ false → signed (signed_of bits) ≡ decimal n
+  signed_above e = rw number (above (signed_of bits) (ap is_negative (sym same) ∙ e))

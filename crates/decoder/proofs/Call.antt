@@ -1,4 +1,5 @@
--- The call: 10, 9, 7 in this order, then what the tokens are read as; and that it is unambiguous, and what its number tells.
+-- The call: what the tokens are read as, after the scan; and that it is unambiguous, and what its number tells.
+use Rattle.std.proofs.Common.{leb, cond, Fits, Result, Ok, Err, get_or, w8, w64}
 use Prim.Native.Nat.{ℕ, ◌+◌, ◌-◌, ◌^◌, ◌≤◌, ◌<◌}
 use mathlib.Core.Option.{Option, none, some}
 use mathlib.Core.Path.{◌≡◌, refl, sym, ap, ap₂, subst, ◌∙◌}
@@ -6,7 +7,8 @@ use mathlib.Core.List.{List, ◌++◌, reverse}
 use native.Mathlib.Omega.{arith}
 use borrow.Author.Tests.{le-leb, lt-leb}
 use lib.ListN.{length, length-append, length-reverse}
-use Rattle.slices.specs.Bytes.{All, Bytes, over}
+use Rattle.slices.specs.Bytes.{over}
+use Rattle.slices.proofs.Bytes.{all_of}
 use Rattle.semantics.specs.Operations.{Token}
 use Rattle.semantics.specs.declared.Decoded.{Decoded}
 use Rattle.semantics.specs.declared.Refusal.{Refusal}
@@ -16,7 +18,7 @@ use Rattle.semantics.specs.Token.{form}
 use Rattle.semantics.specs.Oracle.{oracle_rule}
 use Rattle.semantics.specs.FromTokens.{Found, found, from_tokens, nothing}
 use Rattle.semantics.specs.Records.{Records, token_at, tokens, unsound}
-use Rattle.semantics.specs.Decode.{Decoding, Reading, decode, decoded, decoded_as, reading, unless_ruled}
+use Rattle.semantics.specs.Decode.{reading_sound, Decoding, Reading, decode, decoded, decoded_as, reading, unless_ruled}
 use Rattle.semantics.specs.Meaning.{CallAccepts, CallToldApart, CallUnambiguous, decoded_number}
 use Rattle.semantics.proofs.Canon.{canon}
 use Rattle.semantics.proofs.Find.{reader_picked, reader_sound}
@@ -26,9 +28,8 @@ use Rattle.semantics.proofs.Records.{length-tokens, tokens_sound}
 use Rattle.semantics.proofs.ToldApart.{call_told_apart}
 use Rattle.productions.specs.Before.{before}
 use Rattle.readers.specs.Readings.{reading_of}
-use Rattle.decoder.specs.Sound.{Ready}
+use Rattle.decoder.specs.Sound.{Lent, Ready, scanned}
 use Rattle.emission.specs.Pieces.{Piece, broken, joined, judged, pieces, unless_broken}
-use Rattle.emission.specs.declared.Judged.{Judged}
 use Rattle.readers.specs.declared.Reading as R
 use Rattle.productions.proofs.Tokens.{length_before, reverse-tokens}
 use Rattle.emission.proofs.Trees.{arith_joined, arith_pieces, form-pieces}
@@ -77,28 +78,32 @@ read-judged r start e = decode_is r ∙ go (from_tokens (before (token_at r) (le
         ∙ rw (is, broken-rule a, arith_joined a, size)
     go nothing p q = let z : ◌≡◌ {A = ℕ} 0 1 = cc in absurd (omega arith)
 
+-- what is lent fits its types
+pub lent_fits : (r : Records) → ((i : ℕ) → Fits w8 (get_or r.keys i 0)) → ((i : ℕ) → Fits w64 (get_or r.numbers i 0)) → Lent r
+lent_fits r bytes wide = record { bytes = all_of (λ x. x < 256) r.keys 0 (λ i. (bytes i).fits); wide = all_of (λ n. n < 2 ^ 64) r.numbers 0 (λ i. (wide i).fits) }
+
 -- a record's tokens that are read, as the code finds them: the rule is broken, or it is kept
-module _ (r : Records) (old : List ℕ) (ready : Ready r old) (bytes : Bytes r.keys) (wide : All (λ n. n < 2 ^ 64) r.numbers) where
+module _ (r : Records) (old : List ℕ) (ready : Ready r old) (lent : Lent r) where
   pub turned_down : (x : Refusal) → decode (tokens r) ≡ Reading.refused x
-      → ◌≡◌ {A = Decoding} (record { answer = Decoded.Refused x; buffer = old }) (decoded_as old (decode (tokens r)))
+      → ◌≡◌ {A = Decoding} (record { answer = Err x; buffer = old }) (decoded_as old (decode (tokens r)))
   turned_down x e = rw e
 
   module _ (start : ℕ) (read : R.Reading.Read start ≡ reading_of (from_tokens (before (token_at r) (length r.kinds)))) where
-    pub rule-broken : (x : Refusal) → Judged.Broken x ≡ judged (all_pieces r start) → decode (tokens r) ≡ Reading.refused x
+    pub rule-broken : (x : Refusal) → Err x ≡ judged (all_pieces r start) → decode (tokens r) ≡ Reading.refused x
     unfolding judged
     rule-broken x e = read-judged r start read ∙ go (broken (all_pieces r start)) e
       where
-        go : (o : Option Refusal) → Judged.Broken x ≡ unless_broken o (length (joined (all_pieces r start)))
+        go : (o : Option Refusal) → Err x ≡ unless_broken o (length (joined (all_pieces r start)))
             → read_as o (joined (all_pieces r start)) start ≡ Reading.refused x
         go none q = let z : ◌≡◌ {A = ℕ} 0 1 = cc in absurd (omega arith)
         go (some y) q = cc
 
-    module _ (size : ℕ) (kept-is : Judged.Kept size ≡ judged (all_pieces r start)) where
+    module _ (size : ℕ) (kept-is : Ok size ≡ judged (all_pieces r start)) where
       kept-size : (broken (all_pieces r start) ≡ none) × (size ≡ length (joined (all_pieces r start)))
       unfolding judged
       kept-size = go (broken (all_pieces r start)) refl kept-is
         where
-          go : (o : Option Refusal) → broken (all_pieces r start) ≡ o → Judged.Kept size ≡ unless_broken o (length (joined (all_pieces r start)))
+          go : (o : Option Refusal) → broken (all_pieces r start) ≡ o → Ok size ≡ unless_broken o (length (joined (all_pieces r start)))
               → (broken (all_pieces r start) ≡ none) × (size ≡ length (joined (all_pieces r start)))
           go none p q = (p, cc)
           go (some y) p q = let z : ◌≡◌ {A = ℕ} 0 1 = cc in absurd (omega arith)
@@ -109,41 +114,39 @@ module _ (r : Records) (old : List ℕ) (ready : Ready r old) (bytes : Bytes r.k
       -- the code fits the buffer, and is written there
       pub code-room : (size ≤ length old) × (size ≡ length (joined (all_pieces r start)))
       code-room =
-          let fits = decoded-fits (tokens r) (rw length-tokens ready.few) (tokens_sound r bytes wide ready.sound) (joined (all_pieces r start)) start accepted in
+          let fits = decoded-fits (tokens r) (rw length-tokens ready.few) (tokens_sound r lent.bytes lent.wide ready.sound) (joined (all_pieces r start)) start accepted in
           (omega (arith, fits, kept-size.1, ready.full), kept-size.1)
 
       pub code_accepted : (after : List ℕ) → after ≡ over (joined (all_pieces r start)) old
-          → ◌≡◌ {A = Decoding} (record { answer = Decoded.Code size start; buffer = after }) (decoded_as old (decode (tokens r)))
+          → ◌≡◌ {A = Decoding} (record { answer = Ok (record { bytes = size; start = start }); buffer = after }) (decoded_as old (decode (tokens r)))
       code_accepted after e = rw (accepted, e, ← kept-size.1)
 
--- 10, 9, 7, and then
-module _ (r : Records) (old : List ℕ) (bytes : Bytes r.keys) (wide : All (λ n. n < 2 ^ 64) r.numbers) where
-  abbrev pub Owed : Decoded → List ℕ → Type 0
-  Owed d after =
-      (◌≡◌ {A = Decoding} (record { answer = d; buffer = after }) (decoded r old))
-      × (CallUnambiguous r old (CallAccepts d after) × CallToldApart r old (decoded_number d))
+-- 10; and where there are not too many records, by the scan, and then
+pub decoded_many : (r : Records) (old : List ℕ) → max_tokens < length r.kinds → decoded r old ≡ record { answer = Err Refusal.TooManyRecords; buffer = old }
+unfolding decoded
+decoded_many r old many = rw (lt-leb (length r.kinds) max_tokens many)
 
-  owed : (d : Decoded) (after : List ℕ) → ◌≡◌ {A = Decoding} (record { answer = d; buffer = after }) (decoded r old) → Owed d after
-  owed d after e = (
-    e,
-    subst (λ (x : Decoding). CallUnambiguous r old (CallAccepts x.answer x.buffer) × CallToldApart r old (decoded_number x.answer)) (sym e)
-        (call_unambiguous r old bytes wide, call_told_apart r old bytes wide),
-  )
+abbrev pub decoded_after : Result (Unit {0}) ℕ → Records → List ℕ → Decoding
+decoded_after (Err i) r old = record { answer = Err (Refusal.TokenUnsound i); buffer = old }
+decoded_after (Ok u) r old = decoded_as old (cond (leb max_code (length old)) (decode (tokens r)) (Reading.refused Refusal.BufferTooShort))
 
-  pub owed_10 : max_tokens < length r.kinds → Owed (Decoded.Refused Refusal.TooManyRecords) old
-  unfolding decoded
-  owed_10 many = owed (Decoded.Refused Refusal.TooManyRecords) old (rw (lt-leb (length r.kinds) max_tokens many))
+pub decoded_scan : (r : Records) (old : List ℕ) → length r.kinds ≤ max_tokens → decoded r old ≡ decoded_after (scanned (unsound r)) r old
+unfolding decoded
+decoded_scan r old few = rw (le-leb (length r.kinds) max_tokens few) (go (unsound r))
+  where
+    go : (x : Option ℕ) → decoded_as old (reading_sound x (tokens r) old) ≡ decoded_after (scanned x) r old
+    go none = refl
+    go (some i) = refl
 
-  module _ (few : length r.kinds ≤ max_tokens) where
-    pub owed_9 : (i : ℕ) → unsound r ≡ some i → Owed (Decoded.Refused (Refusal.TokenUnsound i)) old
-    unfolding decoded
-    owed_9 i one = owed (Decoded.Refused (Refusal.TokenUnsound i)) old (rw (le-leb (length r.kinds) max_tokens few, one))
+-- and what the tokens are read as makes the call unambiguous, and tells conditions apart
+module _ (r : Records) (old : List ℕ) (lent : Lent r)
+    (d : Result Decoded Refusal) (after : List ℕ) (is : ◌≡◌ {A = Decoding} (record { answer = d; buffer = after }) (decoded_as old (decode (tokens r)))) where
+  pub answer_unambiguous : CallUnambiguous r old (CallAccepts d after)
+  answer_unambiguous few all full =
+      subst (λ (x : Decoding). CallUnambiguous r old (CallAccepts x.answer x.buffer)) (call_decodes r old few all full ∙ sym is)
+      (call_unambiguous r old lent.bytes lent.wide) few all full
 
-    pub owed_7 : unsound r ≡ none → length old < max_code → Owed (Decoded.Refused Refusal.BufferTooShort) old
-    unfolding decoded
-    owed_7 all less =
-        owed (Decoded.Refused Refusal.BufferTooShort) old (rw (le-leb (length r.kinds) max_tokens few, all, lt-leb max_code (length old) less))
-
-    pub owed_read : unsound r ≡ none → max_code ≤ length old → (d : Decoded) (after : List ℕ)
-        → ◌≡◌ {A = Decoding} (record { answer = d; buffer = after }) (decoded_as old (decode (tokens r))) → Owed d after
-    owed_read all full d after e = owed d after (e ∙ sym (call_decodes r old few all full))
+  pub answer_told_apart : CallToldApart r old (decoded_number d)
+  answer_told_apart few all full =
+      subst (λ (x : Decoding). CallToldApart r old (decoded_number x.answer)) (call_decodes r old few all full ∙ sym is)
+      (call_told_apart r old lent.bytes lent.wide) few all full

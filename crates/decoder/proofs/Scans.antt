@@ -1,7 +1,6 @@
 -- Soundness of records: by fields (`sound_fields`), record after record (`unsound-here` ..), and what sound records are (`ready_numbered`, `ready_whole`).
 use Prim.Native.Nat.{ℕ, zero, suc, ◌+◌, ◌-◌, ◌^◌, ◌≤◌, ◌<◌}
 use mathlib.Core.Bool.{Bool, true, false, cond, not, ◌&&◌, ◌||◌}
-use mathlib.Core.Logic.{◌⊎◌, inl, inr}
 use mathlib.Core.Option.{Option, none, some}
 use mathlib.Core.Path.{◌≡◌, refl}
 use native.Mathlib.Nat.{add-suc, add-zero, suc-add, zero-add}
@@ -13,27 +12,22 @@ use lib.ListN.{length, get_or, get_or-eq_default}
 use Rattle.semantics.specs.Records.{Records, sound_at, unsound, unsound_from}
 use Rattle.semantics.proofs.Tests.{and_true}
 use Rattle.productions.specs.Before.{Numbered, Whole}
-use Rattle.decoder.specs.Sound.{fields_sound, scanned}
-use Rattle.decoder.specs.declared.soundness.Scanned.{Scanned}
+use Rattle.decoder.specs.Sound.{fields_sound}
 
 -- a record is sound if its fields are there and sound
 pub sound_fields : (r : Records) (i : ℕ) → i < length r.numbers → i < length r.places
     → sound_at r i ≡ fields_sound (get_or r.kinds i 0) (get_or r.numbers i 0) (get_or r.places i 0) (length r.keys)
 sound_fields r i h g = rw (lt-ltb i (length r.numbers) h, lt-ltb i (length r.places) g)
 
-pub no_number : (r : Records) (i : ℕ) → length r.numbers ≤ i → sound_at r i ≡ false
-no_number r i h = rw (le-ltb i (length r.numbers) h)
-
-pub no_place : (r : Records) (i : ℕ) → i < length r.numbers → length r.places ≤ i → sound_at r i ≡ false
-no_place r i h g = rw (lt-ltb i (length r.numbers) h, le-ltb i (length r.places) g)
-
-pub no_field : (r : Records) (i : ℕ) → (length r.numbers ≤ i) ⊎ (length r.places ≤ i) → sound_at r i ≡ false
-no_field r i (inl h) = no_number r i h
-no_field r i (inr h) = go (ltb i (length r.numbers)) refl
+-- where a field is not there, it is unsound
+pub no_field : (r : Records) (i : ℕ) → (i < length r.numbers → i < length r.places → ⊥) → sound_at r i ≡ false
+no_field r i absent = go (ltb i (length r.numbers)) refl
   where
     go : (b : Bool) → ltb i (length r.numbers) ≡ b → sound_at r i ≡ false
-    go true e = no_place r i (ltb-true i (length r.numbers) e) h
-    go false e = no_number r i (ltb-false i (length r.numbers) e)
+    go false e = rw (le-ltb i (length r.numbers) (ltb-false i (length r.numbers) e))
+    go true e =
+        let number = ltb-true i (length r.numbers) e in
+        rw (lt-ltb i (length r.numbers) number, le-ltb i (length r.places) (omega (arith, absent number)))
 
 -- one record after the other
 pub unsound-here : (r : Records) (i n : ℕ) → i < n → sound_at r i ≡ false → unsound_from r i (n - i) ≡ some i
@@ -47,14 +41,6 @@ unsound-next r i n h e = let k : n - i ≡ suc (n - (i + 1)) = omega arith in rw
 pub unsound_none : (r : Records) (i n : ℕ) → n ≤ i → unsound_from r i (n - i) ≡ none
 unfolding unsound_from
 unsound_none r i n h = let k : n - i ≡ 0 = omega arith in rw k
-
-pub scanned_some : (x : Option ℕ) (i : ℕ) → scanned x ≡ Scanned.Unsound i → x ≡ some i
-scanned_some none i e = cc
-scanned_some (some j) i e = cc
-
-pub scanned_none : (x : Option ℕ) → scanned x ≡ Scanned.Sound → x ≡ none
-scanned_none none e = refl
-scanned_none (some j) e = cc
 
 -- where none is unsound, each is sound
 first_sound : (b : Bool) (x : Option ℕ) (i : ℕ) → cond b x (some i) ≡ none → (b ≡ true) × (x ≡ none)

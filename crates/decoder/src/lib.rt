@@ -6,10 +6,11 @@ ghost use Rattle.std.specs.Prelude.{◌≡◌};
 ghost use Rattle.semantics.specs.Decode.{decode, decoded, decoded_as};
 ghost use Rattle.semantics.specs.Meaning.{CallAccepts, CallToldApart, CallUnambiguous, decoded_number};
 ghost use Rattle.semantics.specs.Records.{records_of, tokens};
-ghost use Rattle.decoder.specs.Sound.{Ready};
+ghost use Rattle.emission.specs.Pieces.{records_in};
+ghost use Rattle.decoder.specs.Sound.{Lent, Ready};
 
-use crate::soundness::{Scanned, scan};
-use emission::{Judged, emit, judge};
+use crate::soundness::scan;
+use emission::{TokenColumns, emit, judge};
 use productions::find_rows;
 use readers::{Reading, read_condition};
 use semantics::{Decoded, MAX_CODE, MAX_TOKENS, Refusal};
@@ -17,40 +18,32 @@ use semantics::{Decoded, MAX_CODE, MAX_TOKENS, Refusal};
 mod soundness;
 
 // Decodes up to 1,024 sound records into a buffer that is large enough.
-fn decode_sound(
-    kinds: &[u8],
-    numbers: &[u64],
-    places: &[u32],
-    keys: &[u8],
-    code: &mut [u8],
-) -> Decoded
-    requires { Ready (records_of kinds.now numbers.now places.now keys.now) code.old }
+fn decode_sound(columns: &TokenColumns, code: &mut [u8]) -> Result<Decoded, Refusal>
+    requires ready { Ready (records_in columns.now) code.old }
+    requires lent { Lent (records_in columns.now) }
     ensures { record { answer = result; buffer = code.new } ≡ decoded_as code.old
-        (decode (tokens (records_of kinds.now numbers.now places.now keys.now))) }
+        (decode (tokens (records_in columns.now))) }
 {
     let mut rows = [0u8; MAX_TOKENS];
-    find_rows(kinds, numbers, &mut rows);
-    let Reading::Read(place) = read_condition(&rows, kinds.len()) else {
-        return Decoded::Refused(Refusal::NoCondition);
+    find_rows(columns.kinds, columns.numbers, &mut rows);
+    let Reading::Read(place) = read_condition(&rows, columns.kinds.len()) else {
+        return Err(Refusal::NoCondition);
     };
     let start = place as usize;
-    match judge(kinds, &rows, start) {
-        Judged::Broken(r) => Decoded::Refused(r),
-        Judged::Kept(bytes) => {
-            emit(kinds, numbers, places, keys, &rows, start, code, bytes);
-            Decoded::Code { bytes, start }
-        }
-    }
+    let bytes = judge(columns.kinds, &rows, start)?;
+    emit(columns, &rows, start, code, bytes);
+    Ok(Decoded { bytes, start })
 }
 
 // The condition that token records end with: its code goes to the front of `code`, and nothing else is written there.
+#[tactic(auto, using(crate::proofs::Call::decoded_many, crate::proofs::Call::decoded_scan))]
 pub fn decode(
     kinds: &[u8],
     numbers: &[u64],
     places: &[u32],
     keys: &[u8],
     code: &mut [u8],
-) -> Decoded
+) -> Result<Decoded, Refusal>
     ensures code_after { record { answer = result; buffer = code.new } ≡ decoded
         (records_of kinds.now numbers.now places.now keys.now) code.old }
     ensures call_unambiguous { CallUnambiguous
@@ -61,15 +54,17 @@ pub fn decode(
         code.old (decoded_number result) }
 {
     if MAX_TOKENS < kinds.len() {
-        return Decoded::Refused(Refusal::TooManyRecords);
+        return Err(Refusal::TooManyRecords);
     }
-    match scan(kinds, numbers, places, keys) {
-        Scanned::Unsound(at) => Decoded::Refused(Refusal::TokenUnsound(at)),
-        Scanned::Sound => {
-            if code.len() < MAX_CODE {
-                return Decoded::Refused(Refusal::BufferTooShort);
-            }
-            decode_sound(kinds, numbers, places, keys, code)
-        }
+    let columns = TokenColumns {
+        kinds,
+        numbers,
+        places,
+        keys,
+    };
+    scan(&columns).map_err(Refusal::TokenUnsound)?;
+    if code.len() < MAX_CODE {
+        return Err(Refusal::BufferTooShort);
     }
+    decode_sound(&columns, code)
 }

@@ -1,67 +1,47 @@
 // Which token record is unsound.
 ghost use Rattle.std.specs.Prelude.{◌≡◌};
-ghost use Rattle.semantics.specs.Records.{records_of, unsound};
-ghost use Rattle.decoder.specs.Sound.{Shortest, fields_sound, scanned};
+ghost use Rattle.semantics.specs.Records.{unsound};
+ghost use Rattle.emission.specs.Pieces.{records_in};
+ghost use Rattle.decoder.specs.Sound.{fields_sound, scanned};
 
-// The kinds of a Num and of a key, and what soundness asks of them.
-const NUM: u8 = 1;
+use emission::TokenColumns;
+use token_table::TokenKind;
 
+// A Num holds less: 2^32.
 const NUM_LIMIT: u64 = 4294967296;
 
-const BYTES32: u8 = 3;
-
 const KEY_BYTES: usize = 32;
-
-const MOST_KIND: u8 = 35;
-
-// The first unsound record, if there is one.
-#[derive(Clone, Copy)]
-pub enum Scanned {
-    Unsound(usize),
-    Sound,
-}
 
 // Whether a record's fields are sound, with so many key bytes.
 fn fields_sound(kind: u8, number: u64, place: u32, keys: usize) -> bool
     ensures { result ≡ fields_sound kind number place keys }
 {
-    if BYTES32 < kind {
-        return kind <= MOST_KIND;
-    }
-    if kind == NUM {
-        return number < NUM_LIMIT;
-    }
-    if kind == BYTES32 {
-        return place as usize + KEY_BYTES <= keys;
-    }
-    true
-}
-
-// The shortest of three lengths.
-fn shortest(a: usize, b: usize, c: usize) -> usize
-    ensures { Shortest a b c result }
-{
-    if b < a {
-        if c < b { c } else { b }
-    } else {
-        if c < a { c } else { a }
+    match TokenKind::try_from(kind) {
+        Ok(TokenKind::Num) => number < NUM_LIMIT,
+        Ok(TokenKind::Bytes32) => place as usize + KEY_BYTES <= keys,
+        Ok(_) => true,
+        Err(_) => false,
     }
 }
 
 // The first unsound record; one whose number or place is not lent is unsound.
-pub fn scan(kinds: &[u8], numbers: &[u64], places: &[u32], keys: &[u8]) -> Scanned
-    ensures { result ≡ scanned (unsound (records_of kinds.now numbers.now places.now keys.now)) }
+pub fn scan(columns: &TokenColumns) -> Result<(), usize>
+    ensures { result ≡ scanned (unsound (records_in columns.now)) }
 {
-    let n = shortest(kinds.len(), numbers.len(), places.len());
-    let mut i = 0;
-    while i < n {
+    let TokenColumns {
+        kinds,
+        numbers,
+        places,
+        keys,
+    } = columns;
+    let paired = kinds.len().min(numbers.len()).min(places.len());
+    for i in 0..paired {
         if !fields_sound(kinds[i], numbers[i], places[i], keys.len()) {
-            return Scanned::Unsound(i);
+            return Err(i);
         }
-        i += 1;
     }
-    if i < kinds.len() {
-        return Scanned::Unsound(i);
+    if paired < kinds.len() {
+        return Err(paired);
     }
-    Scanned::Sound
+    Ok(())
 }

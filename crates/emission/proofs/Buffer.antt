@@ -2,9 +2,8 @@
 use Prim.Native.Nat.{ℕ, suc, ◌+◌, ◌-◌, ◌≤◌, ◌<◌}
 use mathlib.Core.Path.{◌≡◌, sym, ap, ◌∙◌}
 use mathlib.Core.List.{List, [], ◌∷◌, ◌++◌, append_assoc}
-use native.Mathlib.Nat.{sub-zero}
 use native.Mathlib.Omega.{arith}
-use lib.ListN.{length, take, drop, set, length-append, length-drop, take-append-drop}
+use lib.ListN.{length, take, drop, set, length-append, length-drop}
 use lib.Seq.{drop_at, drop-drop, length-take-le, paste, set_split, take_at}
 use Rattle.slices.specs.Bytes.{little_endian}
 use Rattle.slices.proofs.Bytes.{length-little_endian}
@@ -50,23 +49,6 @@ key-wrote : (d : List ℕ) (at : ℕ) (key : List ℕ) → 32 ≤ length key →
 key-wrote d at key h =
     append_assoc (take at d) (take 32 key) (drop (at + 32) d)
     ∙ ap (λ (k : ℕ). take at d ++ (take 32 key ++ drop (at + k) d)) (sym (length-take-le 32 key h))
-
-pub put-nothing : (d : List ℕ) (at : ℕ) → d ≡ put d at []
-put-nothing d at = sym (ap (λ (n : ℕ). take n d ++ drop at d) (sub-zero at) ∙ take-append-drop at d)
-
--- a command
-pub command-put : (d : List ℕ) (at c : ℕ) → 1 ≤ at → at ≤ length d → set d (at - 1) c ≡ put d at (c ∷ [])
-command-put d at c low high = set-wrote d (at - 1) c (omega arith) ∙ wrote-put d (at - 1) at (c ∷ []) (omega arith)
-
--- a command, and a number behind it
-pub number_put : (d d₁ d₂ : List ℕ) (at c n : ℕ) → 9 ≤ at → at ≤ length d → d₁ ≡ set d (at - 9) c
-    → d₂ ≡ take (at - 8) d₁ ++ little_endian 8 n ++ drop (at - 8 + 8) d₁ → d₂ ≡ put d at (c ∷ little_endian 8 n)
-number_put d d₁ d₂ at c n low high e₁ e₂ =
-    let next : at - 8 ≡ at - 9 + 1 = omega arith in
-    e₂ ∙ number-wrote d₁ (at - 8) n ∙ ap (λ (k : ℕ). wrote d₁ k (little_endian 8 n)) next
-    ∙ ap (λ (l : List ℕ). wrote l (at - 9 + 1) (little_endian 8 n)) (e₁ ∙ set-wrote d (at - 9) c (omega arith))
-    ∙ wrote-wrote d (at - 9) (c ∷ []) (little_endian 8 n) (omega arith)
-    ∙ wrote-put d (at - 9) at (c ∷ little_endian 8 n) (omega (arith, length-little_endian 8 n))
 
 -- a command, a key and a time behind it
 pub oracle-put : (d d₁ d₂ d₃ : List ℕ) (at c : ℕ) (keys : List ℕ) (place time : ℕ) → 41 ≤ at → at ≤ length d → place + 32 ≤ length keys → d₁ ≡ set d (at - 41) c

@@ -1,4 +1,7 @@
 -- The loops over pieces: what is judged (`Judging`), and what is written (`Emitting`).
+use Rattle.std.proofs.Common.{Ok, Err}
+use denote.Enum.Bare.{sameb}
+use Rattle.semantics.specs.contracts.Terminal.{the_type}
 use Prim.Native.Nat.{ℕ, suc, ◌+◌, ◌-◌, ◌≤◌, ◌<◌}
 use mathlib.Core.Bool.{Bool, true, false, cond, ◌||◌}
 use mathlib.Core.Option.{Option, none, some}
@@ -15,15 +18,13 @@ use Rattle.semantics.specs.Oracle.{among, missing, rule}
 use Rattle.semantics.specs.Operations.{Token}
 use Rattle.semantics.specs.Records.{Records, token_at}
 use Rattle.productions.specs.Before.{Whole, before}
-use Rattle.emission.specs.Pieces.{Met, Piece, bytes_of, is_price_oracle1_w, joined, judged, part, pieces, pieces_after, placed_piece, put, size_of, terminal_of, terminals_of, unless_broken}
-use Rattle.emission.specs.declared.Judged.{Judged}
-use Rattle.emission.specs.declared.CommandAt.{CommandAt}
+use Rattle.emission.specs.Pieces.{Met, Spot, Piece, bytes_of, is_price_oracle1_w, joined, judged, part, pieces, pieces_after, placed_piece, put, size_of, terminal_of, terminals_of, unless_broken}
 use Rattle.productions.proofs.Tokens.{drop-before}
 use Rattle.emission.proofs.Parts.{joined-append, joined_one, pieces_step}
 use Rattle.emission.proofs.Mets.{size-placed}
 
 -- the pieces before a place, with the last one apart
-met-step : (r : Records) (start end : ℕ) (p : CommandAt) → Met r end p → start < end
+met-step : (r : Records) (start end : ℕ) (p : Spot) → Met r end p → start < end
     → pieces (end - start) (before (token_at r) end) ≡ pieces (p.first - start) (before (token_at r) p.first) ++ placed_piece r p.command p.first ∷ []
 met-step r start end p met h =
     let t : ℕ → Token = token_at r in
@@ -55,7 +56,7 @@ among_split (Terminal.PriceOracle1 ∷ ts) = refl
 among_split (Terminal.PriceOracle1W ∷ ts) = refl
 
 pub judging_next : (r : Records) (start end bytes : ℕ) (first : Terminal) (later : Bool) → Judging r start end bytes first later → end ≤ length r.kinds
-    → Whole r.kinds r.places r.keys → start < end → (p : CommandAt) → Met r end p → (next : Bool) → next ≡ (among (first ∷ []) || later)
+    → Whole r.kinds r.places r.keys → start < end → (p : Spot) → Met r end p → (next : Bool) → next ≡ (among (first ∷ []) || later)
     → (t : Terminal) → t ≡ terminal_of p.command → (n : ℕ) → n ≡ size_of p.command → Judging r start p.first (bytes + n) t next
 unfolding joined
 judging_next r start end bytes first later j few whole h p met next e t f n g =
@@ -68,6 +69,26 @@ judging_next r start end bytes first later j few whole h p met next e t f n g =
       first_is = f;
       later_is = e ∙ ap₂ (λ (t : Terminal) (b : Bool). among (t ∷ []) || b) j.first_is j.later_is ∙ sym (among_split (terminals_of j.done));
     }
+
+-- the tests of the rule
+pub same_oracle : (t : Terminal) → sameb the_type t Terminal.PriceOracle1 ≡ among (t ∷ [])
+same_oracle Terminal.Other = refl
+same_oracle Terminal.PriceOracle1 = refl
+same_oracle Terminal.PriceOracle1W = refl
+
+pub same_first : (t : Terminal) → sameb the_type t Terminal.PriceOracle1W ≡ is_price_oracle1_w t
+same_first Terminal.Other = refl
+same_first Terminal.PriceOracle1 = refl
+same_first Terminal.PriceOracle1W = refl
+
+pub or_later : (later : Bool) (t : Terminal) (b : Bool) → b ≡ sameb the_type t Terminal.PriceOracle1 → (later || b) ≡ (among (t ∷ []) || later)
+or_later later t b e = rw (e ∙ same_oracle t) (go later (among (t ∷ [])))
+  where
+    go : (x y : Bool) → (x || y) ≡ (y || x)
+    go true true = refl
+    go true false = refl
+    go false true = refl
+    go false false = refl
 
 -- the oracle rule by the first terminal and the later ones
 no_yes : {A : Type 0} → false ≡ true → A
@@ -95,7 +116,7 @@ module _ (r : Records) (start end bytes : ℕ) (first : Terminal) (later : Bool)
   unfolding judged
   judged_by x e = sym (rw (all_done, e, ← j.size))
 
-  pub judged-first : is_price_oracle1_w first ≡ true → Judged.Broken Refusal.PriceOracle1WFirst ≡ judged (pieces (length r.kinds - start) (before (token_at r) (length r.kinds)))
+  pub judged-first : is_price_oracle1_w first ≡ true → Err Refusal.PriceOracle1WFirst ≡ judged (pieces (length r.kinds - start) (before (token_at r) (length r.kinds)))
   judged-first e = judged_by (some Refusal.PriceOracle1WFirst) (rule-first (terminals_of j.done) (ap is_price_oracle1_w (sym j.first_is) ∙ e))
 
   module _ (other : is_price_oracle1_w first ≡ false) where
@@ -103,10 +124,10 @@ module _ (r : Records) (start end bytes : ℕ) (first : Terminal) (later : Bool)
     by_later b e =
         rule_later (terminals_of j.done) (ap is_price_oracle1_w (sym j.first_is) ∙ other) ∙ ap (λ (x : Bool). cond x (some Refusal.PriceOracle1Missing) none) (sym j.later_is ∙ e)
 
-    pub judged_later : later ≡ true → Judged.Broken Refusal.PriceOracle1Missing ≡ judged (pieces (length r.kinds - start) (before (token_at r) (length r.kinds)))
+    pub judged_later : later ≡ true → Err Refusal.PriceOracle1Missing ≡ judged (pieces (length r.kinds - start) (before (token_at r) (length r.kinds)))
     judged_later e = judged_by (some Refusal.PriceOracle1Missing) (by_later true e)
 
-    pub judged-kept : later ≡ false → Judged.Kept bytes ≡ judged (pieces (length r.kinds - start) (before (token_at r) (length r.kinds)))
+    pub judged-kept : later ≡ false → Ok bytes ≡ judged (pieces (length r.kinds - start) (before (token_at r) (length r.kinds)))
     judged-kept e = judged_by none (by_later false e)
 
 -- EMITTING: what stands behind `at` is written
@@ -128,7 +149,7 @@ emitting_start r start old bytes e =
     }
 
 module _ (r : Records) (start : ℕ) (old : List ℕ) (end at : ℕ) (buffer : List ℕ) (m : Emitting r start old end at buffer) where
-  module _ (few : end ≤ length r.kinds) (whole : Whole r.kinds r.places r.keys) (h : start < end) (p : CommandAt) (met : Met r end p) where
+  module _ (few : end ≤ length r.kinds) (whole : Whole r.kinds r.places r.keys) (h : start < end) (p : Spot) (met : Met r end p) where
     shorter : at ≡ length (joined (pieces (p.first - start) (before (token_at r) p.first))) + length (bytes_of (placed_piece r p.command p.first))
     shorter =
         m.left ∙ ap (λ (l : List Piece). length (joined l)) (met-step r start end p met h)

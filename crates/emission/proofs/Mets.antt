@@ -1,15 +1,17 @@
 -- The piece that the tokens before a place end with (`met_none`, `met_twin`, `met-row`), and its bytes by its command's width (`size-placed` ..).
 use Prim.Native.Nat.{ℕ, zero, suc, ◌+◌, ◌-◌, ◌≤◌, ◌<◌}
-use mathlib.Core.Bool.{Bool, true, false, cond}
+use mathlib.Core.Bool.{Bool, true, false, cond, ◌&&◌}
+use lib.Dec.{eqb, ltb}
 use mathlib.Core.Path.{◌≡◌, refl, sym, ap, subst⁻¹, ◌∙◌}
 use mathlib.Core.List.{List, [], ◌∷◌, ◌++◌, map}
 use native.Mathlib.Nat.{add-zero}
 use native.Mathlib.Omega.{arith}
-use borrow.Author.Tests.{eq-eqb}
+use borrow.Author.Tests.{eq-eqb, eqb-true, lt-ltb}
 use lib.ListN.{length, get_or, drop, length-append, length-drop, get_or-append, get_or-map}
 use lib.Seq.{length-take-le}
 use Rattle.slices.specs.Bytes.{little_endian}
 use Rattle.slices.proofs.Bytes.{length-little_endian}
+use Rattle.std.proofs.Common.{Option, Some, None, unwrap_or}
 use Rattle.semantics.specs.Operations.{Token, op, bytes32, bytes8, num}
 use Rattle.semantics.specs.declared.Command.{Command}
 use Rattle.semantics.specs.Code.{command_row, known}
@@ -18,12 +20,11 @@ use Rattle.semantics.specs.FromTokens.{Head, IdxHead, head_form, idx_head_form}
 use Rattle.semantics.proofs.Machine.{oracle-length}
 use Rattle.semantics.specs.Records.{Records, key_of, token_at, token_of}
 use Rattle.productions.specs.Before.{Whole, before}
-use Rattle.productions.specs.Ending.{Production, Row, blank, ending, kind_at, last_row, production_of, productions, row_at, row_found, rows}
-use Rattle.emission.specs.Pieces.{Met, Part, Placed, bytes_of, lead, operands_at, own_piece, part, part_of, piece, placed_piece, size_of}
-use Rattle.emission.specs.declared.CommandAt.{CommandAt}
+use Rattle.productions.specs.Ending.{Production, Row, blank, command_in, ending, kind_at, kind_there, last_row, production_of, productions, row_at, row_found, rows}
+use Rattle.emission.specs.Pieces.{Met, Spot, Part, bytes_of, lead, operands_at, own_piece, part, part_of, piece, placed_piece, size_of}
 use Rattle.productions.proofs.Tokens.{get_d_before, length_before, recorded}
 use Rattle.productions.proofs.Endings.{last_row_sound}
-use Rattle.productions.proofs.Places.{At, neither, row-missing}
+use Rattle.productions.proofs.Places.{At, row-missing}
 
 -- the token at a place of a production's own
 own_size : (t : ℕ → Token) (end start : ℕ) (own : List Token) → before t end ≡ own ++ before t start → end ≡ length own + start
@@ -126,14 +127,50 @@ row-command ts k h =
     sym (get_or-map (λ (x : Row). x.command) rows k blank) ∙ ap (λ (l : List Command). get_or l k Command.Unknown) (commands_same ts)
     ∙ get_or-map (λ p. (own_piece p).command) (productions ts) k Production.between
 
--- the current index stands somewhere
-pub twin_some : (r : Records) (start kind : ℕ) → kind ≡ kind_at (before (token_at r) start) 0 → kind ≡ 4 → 1 ≤ start
-unfolding before
-twin_some r start kind e f = go start e
+-- the last token's kind, as it is told
+told_kind : (ts : List Token) (k : ℕ) → kind_there ts 0 ≡ Some k → kind_at ts 0 ≡ k
+told_kind ts k e = go (ltb 0 (length ts)) e
   where
-    go : (n : ℕ) → kind ≡ kind_at (before (token_at r) n) 0 → 1 ≤ n
+    go : (b : Bool) → cond b (Some (kind_at ts 0)) None ≡ Some k → kind_at ts 0 ≡ k
+    go true q = cc
+    go false q = let z : ◌≡◌ {A = ℕ} 0 1 = cc in absurd (omega arith)
+
+kind_told : (ts : List Token) → kind_at ts 0 ≡ 4 → kind_there ts 0 ≡ Some 4
+kind_told [] e = absurd (omega arith)
+kind_told (t ∷ ts) e = rw (lt-ltb 0 (length (t ∷ ts)) (omega arith)) (ap Some e)
+
+-- the current index stands somewhere
+pub twin_some : (r : Records) (start : ℕ) → kind_there (before (token_at r) start) 0 ≡ Some 4 → 1 ≤ start
+unfolding before
+twin_some r start e = go start (told_kind (before (token_at r) start) 4 e)
+  where
+    go : (n : ℕ) → kind_at (before (token_at r) n) 0 ≡ 4 → 1 ≤ n
     go zero q = absurd (omega arith)
     go (suc n) q = omega arith
+
+-- a row's command, as it is told
+row_told : (c : Command) → unwrap_or (cond (known c) (Some c) None) Command.Unknown ≡ c
+row_told Command.Unknown = refl
+row_told Command.IdxConst = refl
+row_told Command.CurrIdx = refl
+row_told (Command.Index o) = refl
+row_told Command.Const = refl
+row_told Command.CurrInputIdx = refl
+row_told (Command.Lookup l) = refl
+row_told (Command.Binary o) = refl
+row_told (Command.Unary o) = refl
+row_told Command.PriceOracle1 = refl
+row_told Command.PriceOracle1W = refl
+row_told (Command.Compare o) = refl
+
+-- two tests that are not both met
+neither : (a b c d : ℕ) → (a ≡ b → c ≡ d → ⊥) → (eqb a b && eqb c d) ≡ false
+neither a b c d h = go (eqb a b) refl (eqb c d) refl
+  where
+    go : (p : Bool) → eqb a b ≡ p → (q : Bool) → eqb c d ≡ q → (p && q) ≡ false
+    go true u true v = absurd (h (eqb-true a b u) (eqb-true c d v))
+    go true u false v = refl
+    go false u q v = refl
 
 -- the piece that the tokens before a place end with
 module _ (r : Records) (end : ℕ) where
@@ -155,12 +192,12 @@ module _ (r : Records) (end : ℕ) where
     split : before (token_at r) end ≡ ending (production_of (before (token_at r) end) k) ++ before (token_at r) start
     split = last_row_sound (before (token_at r) end) (recorded r end) k (before (token_at r) start) at.is
 
-    pub met_twin : k ≡ 1 → (kind : ℕ) → kind ≡ kind_at (before (token_at r) start) 0 → kind ≡ 4 → Met r end (record { command = Command.CurrInputIdx; first = start - 1 })
+    pub met_twin : k ≡ 1 → kind_there (before (token_at r) start) 0 ≡ Some 4 → Met r end (record { command = Command.CurrInputIdx; first = start - 1 })
     unfolding part
-    met_twin one kind e f =
+    met_twin one told =
         let is : part (before (token_at r) end) ≡ record { piece = piece Command.CurrInputIdx []; width = length (row_at k).marks + 1 } =
-        ap (part_of (before (token_at r) end)) at.is ∙ rw (eq-eqb k 1 one, eq-eqb (kind_at (before (token_at r) start) 0) 4 (sym e ∙ f)) in
-        let some = twin_some r start kind e f in
+        ap (part_of (before (token_at r) end)) at.is ∙ rw (eq-eqb k 1 one, eq-eqb (kind_at (before (token_at r) start) 0) 4 (told_kind (before (token_at r) start) 4 told)) in
+        let some = twin_some r start told in
         let sum : start - 1 + (length (row_at k).marks + 1) ≡ end = omega (arith, at.width) in
         record {
           piece = ap (λ (x : Part). x.piece) is;
@@ -169,12 +206,15 @@ module _ (r : Records) (end : ℕ) where
           oracle = λ q. absurd (omega arith);
         }
 
-    pub met-row : (k ≡ 1 → kind_at (before (token_at r) start) 0 ≡ 4 → ⊥) → (c : Command) → c ≡ (row_at k).command → Met r end (record { command = c; first = start })
+    pub met-row : (k ≡ 1 → kind_there (before (token_at r) start) 0 ≡ Some 4 → ⊥) → (told : Option Command) → told ≡ command_in (row_at k)
+        → Met r end (record { command = unwrap_or told Command.Unknown; first = start })
     unfolding part
-    met-row apart c e =
+    met-row apart told e =
+        let c : Command = unwrap_or told Command.Unknown in
         let is : part (before (token_at r) end) ≡ record { piece = own_piece (production_of (before (token_at r) end) k); width = length (row_at k).marks } =
-        ap (part_of (before (token_at r) end)) at.is ∙ rw (neither k 1 (kind_at (before (token_at r) start) 0) 4 apart) in
-        let same : c ≡ (own_piece (production_of (before (token_at r) end) k)).command = e ∙ row-command (before (token_at r) end) k at.row in
+        ap (part_of (before (token_at r) end)) at.is ∙ rw (neither k 1 (kind_at (before (token_at r) start) 0) 4 (λ one four. apart one (kind_told (before (token_at r) start) four))) in
+        let same : c ≡ (own_piece (production_of (before (token_at r) end) k)).command =
+        ap (λ (x : Option Command). unwrap_or x Command.Unknown) e ∙ row_told (row_at k).command ∙ row-command (before (token_at r) end) k at.row in
         record {
           piece = ap (λ (x : Part). x.piece) is ∙ own_placed r end start (production_of (before (token_at r) end) k) split ∙ ap (λ (x : Command). placed_piece r x start) (sym same);
           width = ap (λ (x : Part). start + x.width) is ∙ at.width;
@@ -200,9 +240,6 @@ by_width P none number oracle Command.PriceOracle1 = oracle
 by_width P none number oracle Command.PriceOracle1W = oracle
 by_width P none number oracle (Command.Compare o) = none
 
-pub oracle-width : (c : Command) → ((command_row c).width ≡ 0 → ⊥) → ((command_row c).width ≡ 8 → ⊥) → (command_row c).width ≡ 40
-oracle-width = by_width (λ w. (w ≡ 0 → ⊥) → (w ≡ 8 → ⊥) → w ≡ 40) (λ a b. absurd (a refl)) (λ a b. absurd (b refl)) (λ a b. refl)
-
 pub width_most : (c : Command) → (command_row c).width ≤ 40
 width_most = by_width (λ w. w ≤ 40) (omega arith) (omega arith) (omega arith)
 
@@ -215,9 +252,6 @@ size_most c = go (known c)
 
 -- the bytes of a command's piece
 module _ (r : Records) (c : Command) (first : ℕ) where
-  pub nothing_placed : known c ≡ false → bytes_of (placed_piece r c first) ≡ []
-  nothing_placed e = rw e
-
   module _ (some : known c ≡ true) where
     pub size-known : size_of c ≡ (command_row c).width + 1
     size-known = rw some
@@ -232,7 +266,7 @@ module _ (r : Records) (c : Command) (first : ℕ) where
         → bytes_of (placed_piece r c first) ≡ (command_row c).byte ∷ key_of r (first + lead c + 7) ++ little_endian 8 (get_or r.numbers (first + lead c + 2) 0)
     oracle-placed w = rw (some, w)
 
-module _ (r : Records) (end : ℕ) (p : CommandAt) (met : Met r end p) (few : end ≤ length r.kinds) (w : Whole r.kinds r.places r.keys) where
+module _ (r : Records) (end : ℕ) (p : Spot) (met : Met r end p) (few : end ≤ length r.kinds) (w : Whole r.kinds r.places r.keys) where
   key-size : (i : ℕ) → i < end → get_or r.kinds i 0 ≡ 3 → length (key_of r i) ≡ 32
   key-size i h e = length-take-le 32 (drop (get_or r.places i 0) r.keys) (rw length-drop (omega (arith, w.whole i (omega arith) e)))
 
@@ -250,15 +284,3 @@ module _ (r : Records) (end : ℕ) (p : CommandAt) (met : Met r end p) (few : en
           ≡ cond b ((command_row p.command).width + 1) 0
       go true = omega (arith, operands)
       go false = refl
-
-  -- so it can be written
-  pub met-placed : length r.kinds ≤ length r.numbers → Placed r.numbers r.places r.keys p
-  met-placed paired =
-      record {
-        number = omega (arith, met.falls);
-        oracle = λ e. let h = met.oracle e in (
-          omega (arith, h.0),
-          omega (arith, h.0, w.placed),
-          w.whole (p.first + lead p.command + 7) (omega (arith, h.0)) h.1,
-        );
-      }

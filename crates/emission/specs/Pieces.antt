@@ -1,5 +1,5 @@
 -- The condition code that tokens are the form of, a piece for each production, from the last token back.
-use Rattle.std.specs.Prelude.{ℕ, zero, suc, ◌+◌, ◌-◌, ◌≤◌, ◌<◌, ◌≡◌, Bool, true, false, ◌&&◌, cond, List, [], ◌∷◌, ◌++◌, map, length, get_or, take, drop, eqb}
+use Rattle.std.specs.Prelude.{unwrap_or, ℕ, zero, suc, ◌+◌, ◌-◌, ◌≤◌, ◌<◌, ◌≡◌, Bool, true, false, ◌&&◌, cond, List, [], ◌∷◌, ◌++◌, map, length, get_or, take, drop, eqb, Result, Ok, Err}
 use Rattle.std.proofs.Math.Option.{Option, none, some}
 use Rattle.slices.specs.Bytes.{little_endian}
 use Rattle.semantics.specs.declared.Command.{Command}
@@ -13,8 +13,12 @@ use Rattle.semantics.specs.Records.{Records, key_of, records_of, token_at}
 use Rattle.productions.specs.Before.{before}
 use Rattle.productions.specs.Noted.{Rows}
 use Rattle.productions.specs.Ending.{Production, kind_at, last_row, production_of, row_at}
-use Rattle.emission.specs.declared.Judged.{Judged}
-use Rattle.emission.specs.declared.CommandAt.{CommandAt}
+use Rattle.emission.specs.declared.command_at.CommandAt.{CommandAt}
+use Rattle.emission.specs.declared.TokenColumns.{TokenColumns}
+
+-- the records of columns
+abbrev pub records_in : TokenColumns → Records
+records_in c = records_of c.kinds.now c.numbers.now c.places.now c.keys.now
 
 -- a command with its operand bytes; a piece of the unknown command is of no bytes
 pub record Piece : Type 0 where
@@ -75,6 +79,10 @@ pieces_after (suc skip) (suc n) ts = pieces_after skip n (drop 1 ts)
 abbrev pub pieces : ℕ → List Token → List Piece
 pieces n ts = pieces_after 0 n ts
 
+-- those of the tokens of records from a place on
+abbrev pub pieces_from : Records → ℕ → List Piece
+pieces_from r start = pieces (length r.kinds - start) (before (token_at r) (length r.kinds))
+
 unfoldable pub joined : List Piece → List ℕ
 joined [] = []
 joined (p ∷ ps) = bytes_of p ++ joined ps
@@ -90,11 +98,11 @@ terminals_of ps = map (λ p. terminal_of p.command) ps
 abbrev pub broken : List Piece → Option Refusal
 broken ps = rule (terminals_of ps) []
 
-abbrev pub unless_broken : Option Refusal → ℕ → Judged
-unless_broken none size = Judged.Kept size
-unless_broken (some r) size = Judged.Broken r
+abbrev pub unless_broken : Option Refusal → ℕ → Result ℕ Refusal
+unless_broken none size = Ok size
+unless_broken (some r) size = Err r
 
-unfoldable pub judged : List Piece → Judged
+unfoldable pub judged : List Piece → Result ℕ Refusal
 judged ps = unless_broken (broken ps) (length (joined ps))
 
 abbrev pub is_price_oracle1_w : Terminal → Bool
@@ -120,8 +128,16 @@ placed_piece r c first = piece c (operands_at r (command_row c).width first (fir
 abbrev pub put : List ℕ → ℕ → List ℕ → List ℕ
 put buffer at bytes = take (at - length bytes) buffer ++ (bytes ++ drop at buffer)
 
+-- a command and the place of its first token; `Command.Unknown` stands for none
+pub record Spot : Type 0 where
+  pub command : Command
+  pub first : ℕ
+
+abbrev pub spot_of : CommandAt → Spot
+spot_of p = record { command = unwrap_or p.command Command.Unknown; first = p.first }
+
 -- the command that the tokens before `end` end with: its piece, and the place of its first token
-pub record Met (r : Records) (end : ℕ) (p : CommandAt) : Type 0 where
+pub record Met (r : Records) (end : ℕ) (p : Spot) : Type 0 where
   pub piece : (part (before (token_at r) end)).piece ≡ placed_piece r p.command p.first
   pub width : p.first + (part (before (token_at r) end)).width ≡ end
   pub falls : p.first < end
@@ -130,11 +146,12 @@ pub record Met (r : Records) (end : ℕ) (p : CommandAt) : Type 0 where
 -- the same, where the rows before `end` are noted, whatever the records carry beside their kinds
 pub record Noticed (kinds rows : List ℕ) (end : ℕ) (p : CommandAt) : Type 0 where
   pub falls : p.first < end
-  pub met : (numbers places keys : List ℕ) → Rows (records_of kinds numbers places keys) rows end → Met (records_of kinds numbers places keys) end p
+  pub met : (numbers places keys : List ℕ) → Rows (records_of kinds numbers places keys) rows end
+      → Met (records_of kinds numbers places keys) end (spot_of p)
 
--- what writing a piece needs of the slices
-pub record Placed (numbers places keys : List ℕ) (p : CommandAt) : Type 0 where
-  pub number : p.first < length numbers
+-- what writing a piece needs of the records
+pub record Placed (r : Records) (p : Spot) : Type 0 where
+  pub number : p.first < length r.numbers
   pub oracle : (command_row p.command).width ≡ 40
-      → (p.first + lead p.command + 7 < length numbers) × (p.first + lead p.command + 7 < length places)
-      × (get_or places (p.first + lead p.command + 7) 0 + 32 ≤ length keys)
+      → (p.first + lead p.command + 7 < length r.numbers) × (p.first + lead p.command + 7 < length r.places)
+      × (get_or r.places (p.first + lead p.command + 7) 0 + 32 ≤ length r.keys)

@@ -1,21 +1,24 @@
 // The code of the tokens that were read: a piece for each production, from the last token back. First the oracle rule and the length are judged, and then the pieces are written.
 #![tactic(auto)]
 
-ghost use Rattle.std.specs.Prelude.{◌≡◌, ◌||◌, List, [], ◌∷◌, ◌++◌, ℕ, ◌+◌, ◌-◌, ◌≤◌, ◌<◌, length, take, drop};
+ghost use Rattle.std.specs.Prelude.{◌≡◌, List, [], ◌∷◌, ◌++◌, ℕ, ◌+◌, ◌-◌, ◌≤◌, ◌<◌, length, take, drop};
 ghost use Rattle.slices.specs.Bytes.{little_endian, over};
 ghost use Rattle.semantics.specs.Code.{max_tokens};
 ghost use Rattle.semantics.specs.Records.{records_of};
 ghost use Rattle.productions.specs.Before.{Numbered, Whole, tokens_before};
 ghost use Rattle.productions.specs.Noted.{Fitting, Rows};
-ghost use Rattle.semantics.specs.Oracle.{among};
-ghost use Rattle.emission.specs.Pieces.{Noticed, Placed, bytes_of, is_price_oracle1_w, joined, judged, lead, pieces, placed_piece, put, size_of, terminal_of};
+ghost use Rattle.emission.specs.Pieces.{Noticed, Placed, bytes_of, joined, judged, lead, pieces, pieces_from, placed_piece, put, records_in, size_of, spot_of};
 
-use commands::{byte_of, is_known, width_of};
-use productions::{INPUT, ROWS, command, kind_before, row_before, width};
+use crate::command_at::CommandAt;
+use commands::{byte_of, width_of};
+use productions::{INPUT, command, kind_before, row_before, width};
 use semantics::{Command, MAX_TOKENS, Refusal, Terminal};
+use token_table::TokenKind;
 
-// The kind of the current index.
-const CURR_INP: u8 = 4;
+mod command_at;
+
+// The kind of the current index, as records hold it.
+const CURR_INP: u8 = TokenKind::CurrInp as u8;
 
 // Bytes of a number, of a key, and of a key with a time; then of the pieces that have them: a command with a number, and one with a key and a time.
 const NUMBER_BYTES: usize = 8;
@@ -33,18 +36,13 @@ const TIME: usize = 2;
 
 const KEY: usize = 7;
 
-// A command, `Command::Unknown` where there is none, and the place of its first token.
+// The columns of token records that are lent, and the bytes of their keys.
 #[derive(Clone, Copy)]
-pub struct CommandAt {
-    pub command: Command,
-    pub first: usize,
-}
-
-// The length of the code that keeps the oracle rule, or the refusal of the code that breaks it.
-#[derive(Clone, Copy)]
-pub enum Judged {
-    Kept(usize),
-    Broken(Refusal),
+pub struct TokenColumns<'a> {
+    pub kinds: &'a [u8],
+    pub numbers: &'a [u64],
+    pub places: &'a [u32],
+    pub keys: &'a [u8],
 }
 
 // The command that the tokens before `end` end with; `Input` of the current index is `CurrInputIdx`.
@@ -52,21 +50,18 @@ fn last_command(kinds: &[u8], rows: &[u8; MAX_TOKENS], end: usize) -> CommandAt
     requires { Fitting rows.now end × (end ≤ length kinds.now) × (0 < end) }
     ensures { Noticed kinds.now rows.now end result }
 {
-    let row = row_before(rows, end);
-    if ROWS <= row {
+    let Some(row) = row_before(rows, end) else {
         return CommandAt {
-            command: Command::Unknown,
+            command: None,
             first: end - 1,
         };
-    }
+    };
     let start = end - width(row);
-    if row == INPUT {
-        if kind_before(kinds, start, 0) == CURR_INP {
-            return CommandAt {
-                command: Command::CurrInputIdx,
-                first: start - 1,
-            };
-        }
+    if row == INPUT && kind_before(kinds, start, 0) == Some(CURR_INP) {
+        return CommandAt {
+            command: Some(Command::CurrInputIdx),
+            first: start - 1,
+        };
     }
     CommandAt {
         command: command(row),
@@ -74,60 +69,8 @@ fn last_command(kinds: &[u8], rows: &[u8; MAX_TOKENS], end: usize) -> CommandAt
     }
 }
 
-// The number of bytes of a command's piece: the command's, and its operands'.
-fn size(command: Command) -> usize
-    ensures { result ≡ size_of command }
-{
-    if is_known(command) {
-        width_of(command) + 1
-    } else {
-        0
-    }
-}
-
-// What a command is to the oracle rule.
-fn terminal_of(command: Command) -> Terminal
-    ensures { result ≡ terminal_of command }
-{
-    match command {
-        Command::Unknown => Terminal::Other,
-        Command::IdxConst => Terminal::Other,
-        Command::CurrIdx => Terminal::Other,
-        Command::Index(_) => Terminal::Other,
-        Command::Const => Terminal::Other,
-        Command::CurrInputIdx => Terminal::Other,
-        Command::Lookup(_) => Terminal::Other,
-        Command::Binary(_) => Terminal::Other,
-        Command::Unary(_) => Terminal::Other,
-        Command::PriceOracle1 => Terminal::PriceOracle1,
-        Command::PriceOracle1W => Terminal::PriceOracle1W,
-        Command::Compare(_) => Terminal::Other,
-    }
-}
-
-// Whether PriceOracle1 is among the later terminals, once another one stands before the first.
-fn among_later(later: bool, first: Terminal) -> bool
-    ensures { result ≡ (among (first ∷ []) || later) }
-{
-    match first {
-        Terminal::PriceOracle1 => true,
-        Terminal::PriceOracle1W => later,
-        Terminal::Other => later,
-    }
-}
-
-fn is_price_oracle_1w(terminal: Terminal) -> bool
-    ensures { result ≡ is_price_oracle1_w terminal }
-{
-    match terminal {
-        Terminal::PriceOracle1 => false,
-        Terminal::PriceOracle1W => true,
-        Terminal::Other => false,
-    }
-}
-
 // The length of the code of the tokens from `start` on; 4 if the first command is PriceOracle1W, else 5 if PriceOracle1 is among the later ones.
-pub fn judge(kinds: &[u8], rows: &[u8; MAX_TOKENS], start: usize) -> Judged
+pub fn judge(kinds: &[u8], rows: &[u8; MAX_TOKENS], start: usize) -> Result<usize, Refusal>
     requires { Fitting rows.now (length kinds.now) }
     ensures { (numbers places keys : List ℕ) → Rows (records_of kinds.now numbers places keys) rows.now (length kinds.now) →
         Whole kinds.now places keys → result ≡ judged (pieces (length kinds.now - start)
@@ -137,40 +80,31 @@ pub fn judge(kinds: &[u8], rows: &[u8; MAX_TOKENS], start: usize) -> Judged
     let mut bytes: usize = 0;
     let mut first = Terminal::Other;
     let mut later = false;
+    // the command before `end` says itself where its tokens begin
     while start < end {
         let last = last_command(kinds, rows, end);
-        let command = last.command;
-        later = among_later(later, first);
-        first = terminal_of(command);
-        bytes += size(command);
+        later |= first == Terminal::PriceOracle1;
+        first = last.terminal();
+        bytes += last.size();
         end = last.first;
     }
-    let w_first = is_price_oracle_1w(first);
-    if w_first {
-        return Judged::Broken(Refusal::PriceOracle1WFirst);
+    if first == Terminal::PriceOracle1W {
+        return Err(Refusal::PriceOracle1WFirst);
     }
     if later {
-        return Judged::Broken(Refusal::PriceOracle1Missing);
+        return Err(Refusal::PriceOracle1Missing);
     }
-    Judged::Kept(bytes)
+    Ok(bytes)
 }
 
 // How many tokens a command has before the form of its oracle.
 fn lead(command: Command) -> usize
     ensures { result ≡ lead command }
 {
-    if is_price_oracle_1w(terminal_of(command)) {
-        1
-    } else {
-        0
+    match command {
+        Command::PriceOracle1W => 1,
+        _ => 0,
     }
-}
-
-// A place in the key bytes as an index.
-fn u32_to_usize(x: u32) -> usize
-    ensures { result ≡ x }
-{
-    x as usize
 }
 
 // A command's byte with a number of eight bytes, which end at `at`.
@@ -194,66 +128,49 @@ fn put_oracle(code: &mut [u8], at: usize, byte: u8, keys: &[u8], place: usize, t
 }
 
 // The piece of a command with its operands, which ends at `at`.
-fn put_command(
-    numbers: &[u64],
-    places: &[u32],
-    keys: &[u8],
-    last: CommandAt,
-    code: &mut [u8],
-    at: usize,
-)
-    requires placed { Placed numbers.now places.now keys.now last }
-    requires command_bound { (size_of last.command ≤ at) × (at ≤ length code.old) }
+fn put_command(columns: &TokenColumns, last: CommandAt, code: &mut [u8], at: usize)
+    requires placed { Placed (records_in columns.now) (spot_of last) }
+    requires command_bound { (size_of (spot_of last).command ≤ at) × (at ≤ length code.old) }
     ensures { code.new ≡ put code.old at
-        (bytes_of (placed_piece (records_of [] numbers.now places.now keys.now) last.command last.first)) }
+        (bytes_of (placed_piece (records_in columns.now) (spot_of last).command last.first)) }
 {
-    let command = last.command;
-    let first = last.first;
-    if !is_known(command) {
+    let Some(command) = last.command else {
         return;
-    }
+    };
     let byte = byte_of(command);
-    let width = width_of(command);
-    if width == 0 {
-        code[at - 1] = byte;
-        return;
+    match width_of(command) {
+        0 => code[at - 1] = byte,
+        NUMBER_BYTES => put_number(code, at, byte, columns.numbers[last.first]),
+        _ => {
+            let form = last.first + lead(command);
+            let place = columns.places[form + KEY] as usize;
+            let time = columns.numbers[form + TIME];
+            put_oracle(code, at, byte, columns.keys, place, time);
+        }
     }
-    if width == NUMBER_BYTES {
-        put_number(code, at, byte, numbers[first]);
-        return;
-    }
-    let form = first + lead(command);
-    let place = u32_to_usize(places[form + KEY]);
-    put_oracle(code, at, byte, keys, place, numbers[form + TIME]);
 }
 
 // Writes the code of the tokens from `start` on, of so many bytes, to the front of the buffer.
 pub fn emit(
-    kinds: &[u8],
-    numbers: &[u64],
-    places: &[u32],
-    keys: &[u8],
+    columns: &TokenColumns,
     rows: &[u8; MAX_TOKENS],
     start: usize,
     code: &mut [u8],
     bytes: usize,
 )
-    requires numbered { Numbered kinds.now numbers.now (length kinds.now) }
-    requires whole { Whole kinds.now places.now keys.now }
-    requires bytes_in_bounds { (bytes ≤ length code.old) × (bytes ≡ length (joined (pieces (length kinds.now - start)
-        (tokens_before kinds.now numbers.now places.now keys.now (length kinds.now))))) }
-    requires kinds_len_bound { (length kinds.now ≤ max_tokens) × Rows (records_of kinds.now numbers.now places.now keys.now) rows.now (length kinds.now) }
-    ensures { code.new ≡ over (joined (pieces (length kinds.now - start)
-        (tokens_before kinds.now numbers.now places.now keys.now (length kinds.now))))
-        code.old }
+    requires numbered { Numbered columns.now.kinds.now columns.now.numbers.now (length columns.now.kinds.now) }
+    requires whole { Whole columns.now.kinds.now columns.now.places.now columns.now.keys.now }
+    requires bytes_in_bounds { (bytes ≤ length code.old) × (bytes ≡ length (joined (pieces_from (records_in columns.now) start))) }
+    requires kinds_len_bound { (length columns.now.kinds.now ≤ max_tokens) × Rows (records_in columns.now) rows.now (length columns.now.kinds.now) }
+    ensures { code.new ≡ over (joined (pieces_from (records_in columns.now) start)) code.old }
 {
-    let mut end = kinds.len();
+    let mut end = columns.kinds.len();
     let mut at = bytes;
+    // the command before `end` says itself where its tokens begin
     while start < end {
-        let last = last_command(kinds, rows, end);
-        let command = last.command;
-        put_command(numbers, places, keys, last, code, at);
-        at -= size(command);
+        let last = last_command(columns.kinds, rows, end);
+        put_command(columns, last, code, at);
+        at -= last.size();
         end = last.first;
     }
 }

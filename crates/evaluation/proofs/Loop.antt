@@ -1,39 +1,30 @@
 -- What the loop over the commands keeps, and how it ends.
-use Prim.Native.Nat.{ℕ, ◌+◌, ◌-◌, ◌*◌, ◌≤◌, ◌<◌}
-use mathlib.Core.Path.{◌≡◌, refl, sym, ap, ◌∙◌}
-use mathlib.Core.Bool.{Bool, true}
-use mathlib.Core.List.{List, [], ◌∷◌}
-use mathlib.Core.Option.{Option, none, some}
-use native.Mathlib.Omega.{arith}
-use lib.IntN.{ℤ, pos}
-use lib.ListN.{length, take, drop, get_or, length-drop, take-append-drop}
+use Rattle.std.proofs.Common.{◌≡◌, ℕ, suc, ◌+◌, ◌-◌, ◌*◌, ◌≤◌, ◌<◌, Bool, true, List, [], ◌∷◌, length, take, drop, refl, sym, ap, ◌∙◌, arith, ℤ, pos, length-drop, Option, Some, None, Result, Ok, Err}
+use lib.ListN.{take-append-drop}
 use lib.Seq.{drop-drop, length-take-le}
 use Rattle.slices.specs.Bytes.{bytes_value, over}
 use Rattle.index64.specs.Steps.{in_range}
 use Rattle.semantics.specs.declared.AmountList.{AmountList}
 use Rattle.semantics.specs.declared.Command.{Command}
-use Rattle.semantics.specs.declared.Value.{Value}
-use Rattle.semantics.specs.declared.Verdict.{Verdict}
+use Rattle.semantics.specs.declared.Refusal.{Refusal}
 use Rattle.semantics.specs.Code.{command_row, need_met}
-use Rattle.semantics.specs.Evaluate.{ended, ends_sound}
+use Rattle.semantics.specs.Evaluate.{ended}
 use Rattle.semantics.specs.Evaluation.{Env, Outcome, State, Terminals, err, looked_up, ok, outcome, popping}
 use Rattle.semantics.specs.Operations.{bin_row, idx_row, un_row}
 use Rattle.semantics.specs.Parse.{Instruction, after, command_at, fold, instructions, operands_at}
 use Rattle.semantics.proofs.Machine.{fold_takes}
 use Rattle.summary.specs.declared.Summary.{Summary}
+use Rattle.summary.proofs.Bounds.{oracles_grow}
 use Rattle.condition.specs.Walk.{Passed, counted, fold_terminals, next, start}
 use Rattle.condition.proofs.Onward.{Onward, inside, so_far}
 use Rattle.condition.proofs.Position.{Position, passes_on, position_next, position_start}
-use Rattle.summary.proofs.Bounds.{oracles_grow}
-use Rattle.stacks.specs.declared.Turn.{Turn}
+use Rattle.witness.specs.declared.Progress.{Progress}
 use Rattle.witness.specs.Elements.{state_of}
-use Rattle.evaluation.specs.Run.{Answers, Room}
-use Rattle.evaluation.proofs.Moves.{Moves, Supplied}
-use Rattle.stacks.specs.Stacks.{Ready, move_of, waiting}
-use Rattle.witness.proofs.Elements.{left-count}
-use Rattle.slices.proofs.Stack.{length_stack}
-use Rattle.stacks.specs.Run.{Run, act, concluded, look_at, moved, on_index, on_value, operand, push_value, run_step}
+use Rattle.witness.proofs.Left.{left-count}
+use Rattle.stacks.specs.Run.{Run, act, look_at, moved, on_index, on_value, operand, push_value, run_step}
+use Rattle.stacks.specs.Stacks.{Ready, Waiting}
 use Rattle.stacks.proofs.Run.{value-moved}
+use Rattle.evaluation.specs.Run.{Answers, Moves, Room, Supplied, run_of}
 
 -- ---- how many wait after a command that goes on
 
@@ -48,18 +39,18 @@ module _ {S : Type 0} (t : Terminals S) (env : Env) (s : Summary) where
   outcome-counted c vs is p q r (err x st) = tt
 
   value-counted : (c : Command) (vs is : List ℤ) (st : S) → (next c s).values ≡ length vs + 1 → (next c s).indexes ≡ length is
-      → (next c s).conditions ≡ s.conditions → (v : Value) → Counted c (moved t env st (on_value vs is v))
+      → (next c s).conditions ≡ s.conditions → (v : Result ℤ Refusal) → Counted c (moved t env st (on_value vs is v))
   value-counted c vs is st p q r v = rw (value-moved t env vs is st v) (outcome-counted c vs is p q r (outcome v st))
 
   index-counted : (c : Command) (vs is : List ℤ) (st : S) → (next c s).values ≡ length vs → (next c s).indexes ≡ length is + 1
       → (next c s).conditions ≡ s.conditions → (i : Option ℤ) → Counted c (moved t env st (on_index vs is i))
-  index-counted c vs is st p q r (some z) = (p, omega (arith, q), r)
-  index-counted c vs is st p q r none = tt
+  index-counted c vs is st p q r (Some z) = (p, omega (arith, q), r)
+  index-counted c vs is st p q r None = tt
 
   look_counted : (c : Command) (vs is : List ℤ) (st : S) → (next c s).values ≡ length vs + 1 → (next c s).indexes ≡ length is
       → (next c s).conditions ≡ s.conditions → (l : AmountList) (i : Option ℤ) → Counted c (moved t env st (look_at l vs is i))
-  look_counted c vs is st p q r l (some z) = outcome-counted c vs is p q r (looked_up t env l (some z) st)
-  look_counted c vs is st p q r l none = tt
+  look_counted c vs is st p q r l (Some z) = outcome-counted c vs is p q r (looked_up t env l (Some z) st)
+  look_counted c vs is st p q r l None = tt
 
   acts_counted : (c : Command) (n : List ℕ) (vs is : List ℤ) (st : S) → s.values ≡ length vs → s.indexes ≡ length is
       → need_met (command_row c) (length vs) (length is) ≡ true → Counted c (act t env c n vs is st)
@@ -75,7 +66,7 @@ module _ {S : Type 0} (t : Terminals S) (env : Env) (s : Summary) where
   acts_counted Command.CurrInputIdx n vs is st p q e =
       look_counted Command.CurrInputIdx vs is st (omega (arith, p)) (omega (arith, q)) (omega arith) AmountList.Input (in_range (pos env.current))
   acts_counted (Command.Lookup l) n vs is st p q e =
-      look_counted (Command.Lookup l) vs (drop 1 is) st (omega (arith, p)) (omega (arith, q, length-drop 1 is)) (omega arith) l (some (operand is 0))
+      look_counted (Command.Lookup l) vs (drop 1 is) st (omega (arith, p)) (omega (arith, q, length-drop 1 is)) (omega arith) l (Some (operand is 0))
   acts_counted (Command.Binary o) n vs is st p q e =
       value-counted (Command.Binary o) (drop 2 vs) is st (omega (arith, p, length-drop 2 vs)) (omega (arith, q)) (omega arith) ((bin_row o).result (operand vs 1) (operand vs 0))
   acts_counted (Command.Unary o) n vs is st p q e =
@@ -96,11 +87,6 @@ stays env o (n ∷ ns) = stays env o ns
 over-kept : (k : ℕ) (new old : List ℕ) → 112 * k ≤ length new → drop (112 * k) new ≡ drop (112 * k) old → over (take (112 * k) new) old ≡ new
 over-kept k new old h e = rw (length-take-le (112 * k) new h, ← e) (take-append-drop (112 * k) new)
 
-concluded-ended : (old : List ℕ) (v : Verdict) (st : State)
-    → ended old (concluded v st) ≡ record { answer = record { verdict = v; checks = st.checks; left = length st.left }; buffer = over st.written old }
-concluded-ended old (Verdict.Is b) st = refl
-concluded-ended old (Verdict.Refused r) st = refl
-
 -- bytes that were kept after so many checks are kept after more
 kept_later : (j k : ℕ) (new old : List ℕ) → j ≤ k → drop (112 * j) new ≡ drop (112 * j) old → drop (112 * k) new ≡ drop (112 * k) old
 kept_later j k new old h e =
@@ -108,43 +94,42 @@ kept_later j k new old h e =
     let d : (l : List ℕ) → drop (112 * (k - j)) (drop (112 * j) l) ≡ drop (112 * k) l = λ l. rw s at (drop-drop (112 * (k - j)) (112 * j) l) in
     sym (d new) ∙ ap (drop (112 * (k - j))) e ∙ d old
 
--- what the loop keeps: so many values and indexes wait and so many checks are listed, and the run goes from here where it goes from the start
-pub record Loop (env : Env) (code witness ends out₀ out : List ℕ) (values indexes : List ℤ) (v i left checks at : ℕ) : Type 0 where
+-- what the loop keeps: these operands wait and so many checks are listed, and the run goes from here where it goes from the start
+pub record Loop (env : Env) (code witness ends out₀ out : List ℕ) (values indexes : Waiting) (p : Progress) (at : ℕ) : Type 0 where
   pub last : Summary
-  pub room : Room (length values) (length indexes) (length out) last
+  pub room : Room values.room indexes.room (length out) last
   pub here : Summary
   pub commands : ℕ
   pub position : Position code last here at commands
-  pub values_are : here.values ≡ v
-  pub indexes_are : here.indexes ≡ i
+  pub values_are : here.values ≡ length values.operands
+  pub indexes_are : here.indexes ≡ length indexes.operands
   pub going : here.conditions ≡ 0
-  pub made : checks ≤ here.oracles
-  pub few : left ≤ length ends
-  pub kept : drop (112 * checks) out ≡ drop (112 * checks) out₀
-  pub runs : fold (run_step popping env) (Run.going (waiting values v) (waiting indexes i) (state_of witness ends out left checks)) (instructions (drop at code))
+  pub made : p.checks ≤ here.oracles
+  pub few : p.left ≤ length ends
+  pub kept : drop (112 * p.checks) out ≡ drop (112 * p.checks) out₀
+  pub runs : fold (run_step popping env) (Run.going values.operands indexes.operands (state_of witness ends out p.left p.checks)) (instructions (drop at code))
       ≡ fold (run_step popping env) (Run.going [] [] (state_of witness ends out₀ (length ends) 0)) (instructions code)
 
 module _ {env : Env} {code witness ends out₀ : List ℕ} where
-  pub loop_start : {values indexes : List ℤ} → Passed code (Room (length values) (length indexes) (length out₀))
-      → Loop env code witness ends out₀ out₀ values indexes 0 0 (length ends) 0 0
-  loop_start p =
+  pub loop_start : (values indexes : Waiting) (p : Progress) → Passed code (Room values.room indexes.room (length out₀)) → values.operands ≡ [] → indexes.operands ≡ []
+      → p ≡ record { left = length ends; checks = 0 } → Loop env code witness ends out₀ out₀ values indexes p 0
+  loop_start values indexes p f v i e =
       record {
-        last = p.last;
-        room = p.known;
+        last = f.last;
+        room = f.known;
         here = start;
         commands = 0;
-        position = position_start code p.last p.walk;
-        values_are = refl;
-        indexes_are = refl;
+        position = position_start code f.last f.walk;
+        values_are = rw v;
+        indexes_are = rw i;
         going = refl;
-        made = omega arith;
-        few = omega arith;
+        made = rw e (omega arith);
+        few = rw e (omega arith);
         kept = refl;
-        runs = refl;
+        runs = rw (v, i, e);
       }
 
-  module _ {out : List ℕ} {values indexes : List ℤ} {v i left checks at : ℕ}
-      (l : Loop env code witness ends out₀ out values indexes v i left checks at) where
+  module _ {out : List ℕ} {values indexes : Waiting} {p : Progress} {at : ℕ} (l : Loop env code witness ends out₀ out values indexes p at) where
     abbrev command : Command
     command = command_at code at
 
@@ -154,74 +139,111 @@ module _ {env : Env} {code witness ends out₀ : List ℕ} where
     passed_on : Onward code at l.here l.last
     passed_on = passes_on code l.last l.here at l.commands l.position loop_inside
 
-    met : need_met (command_row command) v i ≡ true
+    pub loop_operands : at + 1 + (command_row command).width ≤ length code
+    loop_operands = passed_on.operands
+
+    met : need_met (command_row command) (length values.operands) (length indexes.operands) ≡ true
     met = rw (l.values_are, l.indexes_are) at passed_on.met
 
-    pub loop_ready : Ready command v i values indexes
+    pub loop_ready : Ready command values indexes
     loop_ready =
         let below = (so_far code at l.here l.last l.position.walk).most in
-        let waits : v + i ≤ l.here.most = omega (arith, l.position.waits, l.values_are, l.indexes_are) in
+        let waits : length values.operands + length indexes.operands ≤ l.here.most = omega (arith, l.position.waits, l.values_are, l.indexes_are) in
         record { met = met; values_fit = omega (arith, below, waits, l.room.0); indexes_fit = omega (arith, below, waits, l.room.1) }
 
     -- the check of an oracle terminal is counted in
-    listed : fold_terminals counted checks (command_row command).terminals ≤ l.last.oracles
+    listed : fold_terminals counted p.checks (command_row command).terminals ≤ l.last.oracles
     listed =
         omega (
           arith,
-          (oracles_grow (command_row command).terminals checks l.here.oracles l.made).1,
+          (oracles_grow (command_row command).terminals p.checks l.here.oracles l.made).1,
           (so_far code (after code at) (next command l.here) l.last passed_on.walk).oracles,
         )
 
-    pub loop_supplied : ends_sound 0 (length witness) ends ≡ true → Supplied command code (at + 1) witness ends out left checks
-    loop_supplied sound =
-        record { operands = omega (arith, passed_on.operands); room = omega (arith, l.room.2, listed); few = l.few; sound = sound }
+    pub loop_supplied : Supplied command ends out p
+    loop_supplied = record { room = omega (arith, l.room.2, listed); few = l.few }
 
-    -- one turn of it, by what `step` promises
-    module _ {out' : List ℕ} {left' checks' : ℕ} (values' indexes' : List ℤ) (turn : Turn) (m : Moves command left checks left' checks' out out')
-        (e : moved popping env (state_of witness ends out' left' checks') (move_of values' indexes' turn)
-        ≡ act popping env command (operands_at code at) (waiting values v) (waiting indexes i) (state_of witness ends out left checks))
+    -- one turn of it, by what `act` promises of the command k with n operand bytes
+    module _ (k : Command) (is : k ≡ command) (n : ℕ) (wide : n ≡ (command_row k).width) (out' : List ℕ) (values' indexes' : Waiting) (p' : Progress)
+        (r : Result (Option Bool) Refusal) (moves : Moves k out out' p p')
+        (acts : run_of values'.operands indexes'.operands (state_of witness ends out' p'.left p'.checks) r
+        ≡ act popping env k (take (at + 1 + n - (at + 1)) (drop (at + 1) code)) values.operands indexes.operands (state_of witness ends out p.left p.checks))
         (same : length out' ≡ length out) where
-      kept-now : drop (112 * checks') out' ≡ drop (112 * checks') out₀
-      kept-now = m.kept ∙ kept_later checks checks' out out₀ m.more l.kept
+      m : Moves command out out' p p'
+      m = rw is at moves
 
-      turned : fold (run_step popping env) (moved popping env (state_of witness ends out' left' checks') (move_of values' indexes' turn))
+      e : run_of values'.operands indexes'.operands (state_of witness ends out' p'.left p'.checks) r
+          ≡ act popping env command (operands_at code at) values.operands indexes.operands (state_of witness ends out p.left p.checks)
+      e =
+          let one : suc at ≡ at + 1 = omega arith in
+          let w : n ≡ (command_row command).width = rw is at wide in
+          let width : at + 1 + n - (at + 1) ≡ (command_row command).width = omega (arith, w) in
+          rw one (rw (width, is) at acts)
+
+      kept-now : drop (112 * p'.checks) out' ≡ drop (112 * p'.checks) out₀
+      kept-now = m.kept ∙ kept_later p.checks p'.checks out out₀ m.more l.kept
+
+      turned : fold (run_step popping env) (run_of values'.operands indexes'.operands (state_of witness ends out' p'.left p'.checks) r)
           (instructions (drop (after code at) code))
           ≡ fold (run_step popping env) (Run.going [] [] (state_of witness ends out₀ (length ends) 0)) (instructions code)
       turned =
           ap (λ (r : Run State). fold (run_step popping env) r (instructions (drop (after code at) code))) e
-          ∙ sym (fold_takes (run_step popping env) code at loop_inside (Run.going (waiting values v) (waiting indexes i) (state_of witness ends out left checks)))
+          ∙ sym (fold_takes (run_step popping env) code at loop_inside (Run.going values.operands indexes.operands (state_of witness ends out p.left p.checks)))
           ∙ l.runs
 
-      pub loop_next : (v' i' : ℕ) → turn ≡ Turn.On v' i' → length values' ≡ length values → length indexes' ≡ length indexes
-          → Loop env code witness ends out₀ out' values' indexes' v' i' left' checks' (after code at)
-      loop_next v' i' q x y =
-          let p : length (waiting values v) ≡ v = length_stack (λ k. get_or values k (pos 0)) v in
-          let r : length (waiting indexes i) ≡ i = length_stack (λ k. get_or indexes k (pos 0)) i in
-          let counts = acts_counted popping env l.here command (operands_at code at) (waiting values v) (waiting indexes i) (state_of witness ends out left checks) (l.values_are ∙ sym p) (l.indexes_are ∙ sym r) (rw (p, r) met) in
-          let c = rw (← e, q) at counts in
-          record {
+      pub loop_next : r ≡ Ok None → values'.room ≡ values.room → indexes'.room ≡ indexes.room
+          → Loop env code witness ends out₀ out' values' indexes' p' (at + 1 + n)
+      loop_next q x y =
+          let w : n ≡ (command_row command).width = rw is at wide in
+          let on : at + 1 + n ≡ after code at = omega (arith, w) in
+          let c = rw (← e, q) at (acts_counted popping env l.here command (operands_at code at) values.operands indexes.operands (state_of witness ends out p.left p.checks) l.values_are l.indexes_are met) in
+          rw on (record {
             last = l.last;
             room = (omega (arith, l.room.0, x), omega (arith, l.room.1, y), omega (arith, l.room.2, same));
             here = next command l.here;
             commands = l.commands + 1;
             position = position_next code l.last l.here at l.commands l.position loop_inside;
-            values_are = c.0 ∙ length_stack (λ k. get_or values' k (pos 0)) v';
-            indexes_are = c.1 ∙ length_stack (λ k. get_or indexes' k (pos 0)) i';
+            values_are = c.0;
+            indexes_are = c.1;
             going = c.2 ∙ l.going;
-            made = omega (arith, m.counted_in, (oracles_grow (command_row command).terminals checks l.here.oracles l.made).1);
+            made = omega (arith, m.counted_in, (oracles_grow (command_row command).terminals p.checks l.here.oracles l.made).1);
             few = omega (arith, m.fewer, l.few);
             kept = kept-now;
             runs = rw q at turned;
-          }
+          })
 
-      pub loop_ended : (r : Verdict) → turn ≡ Turn.Ended r
+      -- it ends with this state and the verdict v, by which an outcome is made
+      ended-now : (v : Result Bool Refusal) (o : Outcome State Bool) → run_of values'.operands indexes'.operands (state_of witness ends out' p'.left p'.checks) r ≡ Run.stopped o
+          → ended out₀ o ≡ record { answer = record { verdict = v; checks = p'.checks; left = length (state_of witness ends out' p'.left p'.checks).left }; buffer = over (take (112 * p'.checks) out') out₀ }
           → Answers out₀ (fold (run_step popping env) (Run.going [] [] (state_of witness ends out₀ (length ends) 0)) (instructions code))
-          (record { answer = record { verdict = r; checks = checks'; left = left' }; buffer = out' })
-      loop_ended r q =
-          let s = rw (q, stays env (concluded r (state_of witness ends out' left' checks')) (instructions (drop (after code at) code))) at turned in
+          (record { answer = record { verdict = v; checks = p'.checks; left = p'.left }; buffer = out' })
+      ended-now v o q f =
+          let s = rw (q, stays env o (instructions (drop (after code at) code))) at turned in
           rw (
             ← s,
-            concluded-ended out₀ r (state_of witness ends out' left' checks'),
-            left-count witness ends left' (omega (arith, m.fewer, l.few)),
-            over-kept checks' out' out₀ (omega (arith, m.counted_in, listed, l.room.2, same)) kept-now,
+            f,
+            left-count witness ends p'.left (omega (arith, m.fewer, l.few)),
+            over-kept p'.checks out' out₀ (omega (arith, m.counted_in, listed, l.room.2, same)) kept-now,
           )
+
+      pub loop_verdict : (v : Bool) → r ≡ Ok (Some v)
+          → Answers out₀ (fold (run_step popping env) (Run.going [] [] (state_of witness ends out₀ (length ends) 0)) (instructions code))
+          (record { answer = record { verdict = Ok v; checks = p'.checks; left = p'.left }; buffer = out' })
+      loop_verdict v q = ended-now (Ok v) (ok v (state_of witness ends out' p'.left p'.checks)) (rw q) refl
+
+      pub loop_refused : (x : Refusal) → r ≡ Err x
+          → Answers out₀ (fold (run_step popping env) (Run.going [] [] (state_of witness ends out₀ (length ends) 0)) (instructions code))
+          (record { answer = record { verdict = Err x; checks = p'.checks; left = p'.left }; buffer = out' })
+      loop_refused x q = ended-now (Err x) (err x (state_of witness ends out' p'.left p'.checks)) (rw q) refl
+
+-- what a turn goes by
+pub record Turn (env : Env) (code witness ends out₀ out : List ℕ) (values indexes : Waiting) (p : Progress) (at : ℕ) : Type 0 where
+  pub loop : Loop env code witness ends out₀ out values indexes p at
+  pub inside : at < length code
+  pub operands : at + 1 + (command_row (command_at code at)).width ≤ length code
+  pub ready : Ready (command_at code at) values indexes
+  pub supplied : Supplied (command_at code at) ends out p
+
+pub turn_of : {env : Env} {code witness ends out₀ out : List ℕ} {values indexes : Waiting} {p : Progress} {at : ℕ}
+    → Loop env code witness ends out₀ out values indexes p at → Turn env code witness ends out₀ out values indexes p at
+turn_of l = record { loop = l; inside = loop_inside l; operands = loop_operands l; ready = loop_ready l; supplied = loop_supplied l }

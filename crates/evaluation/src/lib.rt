@@ -1,19 +1,20 @@
 // Evaluate: the verdict of a condition at an input of a transaction, with the signature checks that it rests on, or why there is none.
 #![tactic(auto)]
 
-ghost use Rattle.std.specs.Prelude.{true, ◌≡◌, [], ◌*◌, ◌≤◌, length};
-ghost use Rattle.semantics.specs.Evaluate.{ends_sound, evaluated};
+ghost use Rattle.std.specs.Prelude.{◌≡◌, [], ◌*◌, ◌≤◌, ◌<◌, length};
+ghost use Rattle.semantics.specs.Code.{max_tokens};
+ghost use Rattle.semantics.specs.Evaluate.{evaluated};
 ghost use Rattle.semantics.specs.Evaluation.{check_size, popping};
 ghost use Rattle.semantics.specs.Parse.{fold, instructions};
 ghost use Rattle.condition.specs.Walk.{Passed};
-ghost use Rattle.amounts.specs.Lists.{env_of};
+ghost use Rattle.amounts.specs.Transactions.{env_in};
 ghost use Rattle.witness.specs.Elements.{state_of};
-ghost use Rattle.evaluation.specs.Run.{Answers};
 ghost use Rattle.stacks.specs.Run.{Run, run_step};
+ghost use Rattle.evaluation.specs.Run.{Answers};
 
-use condition::Examined;
-use semantics::{Evaluated, MAX_TOKENS, Refusal, Verdict};
-use witness::CHECK_BYTES;
+use amounts::Transaction;
+use semantics::{Evaluated, MAX_TOKENS, Refusal};
+use witness::{CHECK_BYTES, Progress, Witness};
 
 mod run;
 
@@ -22,156 +23,95 @@ const FEW: usize = 8;
 
 const SOME: usize = 64;
 
-// A condition that Check let pass, with arrays for the operands that wait.
-fn run_passed(
+// A condition that Check let pass and in which fewer than N operands ever wait.
+fn run_in<const N: usize>(
     code: &[u8],
-    spent: &[u64],
-    spent_marks: &[u8],
-    outputs: &[u64],
-    output_marks: &[u8],
-    issued: &[u64],
-    issued_marks: &[u8],
-    reissued: &[u64],
-    reissued_marks: &[u8],
-    current: u64,
-    witness: &[u8],
-    ends: &[u32],
+    transaction: &Transaction<'_>,
+    witness: &Witness<'_>,
     out: &mut [u8],
-    most: usize,
-) -> Evaluated
-    requires ends_value { ends_sound 0 (length witness.now) ends.now ≡ true }
-    requires passed { Passed code.now (λ s. (s.most ≡ most) × (check_size * s.oracles ≤ length out.old)) }
-    ensures { Answers out.old (fold (run_step popping (env_of spent.now spent_marks.now outputs.now output_marks.now issued.now issued_marks.now reissued.now reissued_marks.now current)) (Run.going [] [] (state_of witness.now ends.now out.old (length ends.now) 0)) (instructions code.now)) (record { answer = result; buffer = out.new }) }
+    progress: &mut Progress,
+) -> Result<bool, Refusal>
+    requires small { N ≤ max_tokens }
+    requires passed { Passed code.now (λ s. (s.most < N) × (check_size * s.oracles ≤ length out.old)) }
+    requires progress { progress.old ≡ record { left = length witness.now.ends.now; checks = 0 } }
+    ensures { Answers out.old (fold (run_step popping (env_in transaction.now)) (Run.going [] [] (state_of witness.now.bytes.now witness.now.ends.now out.old (length witness.now.ends.now) 0)) (instructions code.now)) (record { answer = record { verdict = result; checks = progress.new.checks; left = progress.new.left }; buffer = out.new }) }
 {
-    if most < FEW {
-        let mut vals = [0; FEW];
-        let mut idxs = [0; FEW];
-        return run::run(
-            code,
-            spent,
-            spent_marks,
-            outputs,
-            output_marks,
-            issued,
-            issued_marks,
-            reissued,
-            reissued_marks,
-            current,
-            witness,
-            ends,
-            out,
-            &mut vals,
-            &mut idxs,
-        );
-    }
-    if most < SOME {
-        let mut vals = [0; SOME];
-        let mut idxs = [0; SOME];
-        return run::run(
-            code,
-            spent,
-            spent_marks,
-            outputs,
-            output_marks,
-            issued,
-            issued_marks,
-            reissued,
-            reissued_marks,
-            current,
-            witness,
-            ends,
-            out,
-            &mut vals,
-            &mut idxs,
-        );
-    }
-    let mut vals = [0; MAX_TOKENS];
-    let mut idxs = [0; MAX_TOKENS];
+    let mut values = [0; N];
+    let mut indexes = [0; N];
     run::run(
         code,
-        spent,
-        spent_marks,
-        outputs,
-        output_marks,
-        issued,
-        issued_marks,
-        reissued,
-        reissued_marks,
-        current,
+        transaction,
         witness,
-        ends,
         out,
-        &mut vals,
-        &mut idxs,
+        &mut values,
+        &mut indexes,
+        progress,
     )
 }
 
-// Before the first step: no checks, and all elements left.
-fn refused(r: Refusal, left: usize) -> Evaluated
-    ensures { result ≡ record { verdict = Verdict.Refused r; checks = 0; left = left } }
+// A condition that Check let pass, by how many operands ever wait.
+fn run_passed(
+    code: &[u8],
+    transaction: &Transaction<'_>,
+    witness: &Witness<'_>,
+    out: &mut [u8],
+    progress: &mut Progress,
+    most: usize,
+) -> Result<bool, Refusal>
+    requires passed { Passed code.now (λ s. (s.most ≡ most) × (check_size * s.oracles ≤ length out.old)) }
+    requires progress { progress.old ≡ record { left = length witness.now.ends.now; checks = 0 } }
+    ensures { Answers out.old (fold (run_step popping (env_in transaction.now)) (Run.going [] [] (state_of witness.now.bytes.now witness.now.ends.now out.old (length witness.now.ends.now) 0)) (instructions code.now)) (record { answer = record { verdict = result; checks = progress.new.checks; left = progress.new.left }; buffer = out.new }) }
 {
-    Evaluated {
-        verdict: Verdict::Refused(r),
-        checks: 0,
-        left,
+    if most < FEW {
+        run_in::<FEW>(code, transaction, witness, out, progress)
+    } else if most < SOME {
+        run_in::<SOME>(code, transaction, witness, out, progress)
+    } else {
+        run_in::<MAX_TOKENS>(code, transaction, witness, out, progress)
     }
 }
 
-// The refusals 1 to 5, then 8, 12 and 7, then the evaluation. Nothing beyond the checks that are reported is written.
+// The refusals 1 to 5, then 8, 12 and 7, then the evaluation.
+fn verdict_of(
+    code: &[u8],
+    transaction: &Transaction<'_>,
+    witness: &[u8],
+    ends: &[u32],
+    out: &mut [u8],
+    progress: &mut Progress,
+) -> Result<bool, Refusal>
+    requires { progress.old ≡ record { left = length ends.now; checks = 0 } }
+    ensures { record { answer = record { verdict = result; checks = progress.new.checks; left = progress.new.left }; buffer = out.new } ≡ evaluated code.now (record { env = env_in transaction.now; witness = witness.now; ends = ends.now; buffer = out.old }) }
+{
+    let summary = condition::examine(code)?;
+    if !transaction.is_sound() {
+        return Err(Refusal::AmountsUnsound);
+    }
+    let witness = witness::lent(witness, ends)?;
+    if out.len() < CHECK_BYTES * summary.oracles {
+        return Err(Refusal::BufferTooShort);
+    }
+    run_passed(code, transaction, &witness, out, progress, summary.most)
+}
+
+// Nothing beyond the checks that are reported is written.
 pub fn evaluate(
     code: &[u8],
-    spent: &[u64],
-    spent_marks: &[u8],
-    outputs: &[u64],
-    output_marks: &[u8],
-    issued: &[u64],
-    issued_marks: &[u8],
-    reissued: &[u64],
-    reissued_marks: &[u8],
-    current: u64,
+    transaction: &Transaction<'_>,
     witness: &[u8],
     ends: &[u32],
     out: &mut [u8],
 ) -> Evaluated
-    ensures { record { answer = result; buffer = out.new } ≡ evaluated code.now (record { env = env_of spent.now spent_marks.now outputs.now output_marks.now issued.now issued_marks.now reissued.now reissued_marks.now current; witness = witness.now; ends = ends.now; buffer = out.old }) }
+    ensures { record { answer = result; buffer = out.new } ≡ evaluated code.now (record { env = env_in transaction.now; witness = witness.now; ends = ends.now; buffer = out.old }) }
 {
-    match condition::examine(code) {
-        Examined::Refused(r) => refused(r, ends.len()),
-        Examined::Passed(s) => {
-            if !amounts::amounts_sound(
-                spent,
-                spent_marks,
-                outputs,
-                output_marks,
-                issued,
-                issued_marks,
-                reissued,
-                reissued_marks,
-            ) {
-                return refused(Refusal::AmountsUnsound, ends.len());
-            }
-            if !witness::ends_sound(ends, witness.len()) {
-                return refused(Refusal::WitnessUnsound, ends.len());
-            }
-            if out.len() < CHECK_BYTES * s.oracles {
-                return refused(Refusal::BufferTooShort, ends.len());
-            }
-            run_passed(
-                code,
-                spent,
-                spent_marks,
-                outputs,
-                output_marks,
-                issued,
-                issued_marks,
-                reissued,
-                reissued_marks,
-                current,
-                witness,
-                ends,
-                out,
-                s.most,
-            )
-        }
+    let mut progress = Progress {
+        left: ends.len(),
+        checks: 0,
+    };
+    let verdict = verdict_of(code, transaction, witness, ends, out, &mut progress);
+    Evaluated {
+        verdict,
+        checks: progress.checks,
+        left: progress.left,
     }
 }

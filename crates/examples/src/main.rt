@@ -4,21 +4,15 @@
 ghost use Rattle.std.specs.Prelude.{◌≡◌};
 ghost use Rattle.examples.specs.Const.{with_const};
 
-use semantics::{Checked, Decoded, Evaluated, Refusal, Verdict, Written};
+use amounts::{Amounts, Transaction};
+use commands::byte_of;
+use semantics::{BinOp, CmpOp, Command, Refusal, UnOp};
 use slices::write_le64;
-use std::io;
+use std::{fmt, io};
 use word64::bits;
+use words::{Passed, Places, Refused, Tail, Tokens};
 
-const LEAST: i64 = -0x7fff_ffff_ffff_ffff - 1;
-
-const GREATEST: i64 = 0x7fff_ffff_ffff_ffff;
-
-// Commands.
-const ADD: u8 = 22;
-
-const DIV: u8 = 25;
-
-const MOD: u8 = 26;
+mod words;
 
 // How wide the column of what is asked is.
 const ASKED: usize = 68;
@@ -26,186 +20,56 @@ const ASKED: usize = 68;
 // Room for any code that Decode may answer.
 const ROOM: usize = 65536;
 
-// ---- what a call answers, in words
+// A list of no amounts.
+const NO_AMOUNTS: Amounts<'static> = Amounts {
+    numbers: &[],
+    marks: &[],
+};
 
-fn text(rt: &impl Print, words: &str) -> io::Result<()> {
-    rt.print(words)
-}
-
-fn number(rt: &impl Print, n: u64) -> io::Result<()> {
-    rt.print(n)
-}
-
-// Words, and a number after them.
-fn told(rt: &impl Print, words: &str, n: u64) -> io::Result<()> {
-    text(rt, words)?;
-    number(rt, n)
-}
-
-// 64 bits as a signed number
-fn signed(rt: &impl Print, bits: u64) -> io::Result<()> {
-    if bits < 0x8000_0000_0000_0000 {
-        number(rt, bits)
-    } else {
-        told(rt, "-", !bits + 1)
-    }
-}
-
-// 27 to 31 name both operands, 32 its one.
-fn operands(rt: &impl Print, refusal: u32, first: u64, second: u64) -> io::Result<()> {
-    if refusal < 27 {
-        return Ok(());
-    }
-    if refusal < 33 {
-        text(rt, ": ")?;
-        signed(rt, first)?;
-    }
-    if refusal < 32 {
-        text(rt, ", ")?;
-        signed(rt, second)?;
-    }
-    Ok(())
-}
-
-fn refused(rt: &impl Print, r: Refusal) -> io::Result<()> {
-    let n = refusals::number_of(r);
-    told(rt, "refusal ", n.number as u64)?;
-    operands(rt, n.number, n.first, n.second)?;
-    text(rt, "\n")
-}
-
-fn checked(rt: &impl Print, answer: Checked) -> io::Result<()> {
-    match answer {
-        Checked::Passed { tokens, oracles } => {
-            told(rt, "0, with ", tokens as u64)?;
-            told(rt, " tokens and ", oracles as u64)?;
-            text(rt, " oracle terminals\n")
-        }
-        Checked::Refused(r) => refused(rt, r),
-    }
-}
-
-fn evaluated(rt: &impl Print, answer: Evaluated) -> io::Result<()> {
-    match answer.verdict {
-        Verdict::Is(true) => text(rt, "0, true\n"),
-        Verdict::Is(false) => text(rt, "0, false\n"),
-        Verdict::Refused(r) => refused(rt, r),
-    }
-}
-
-// The source's name of a kind of token, for those that are shown; else its number.
-fn kind_name(rt: &impl Print, kind: u8) -> io::Result<()> {
-    match kind {
-        4 => text(rt, "CurrInp"),
-        7 => text(rt, "ScriptNumToLe64"),
-        8 => text(rt, "Le64ToScriptNum"),
-        9 => text(rt, "Mul64"),
-        14 => text(rt, "Equal"),
-        15 => text(rt, "Verify"),
-        23 => text(rt, "OutValue"),
-        _ => number(rt, kind as u64),
-    }
-}
-
-// A token, after a comma where it is not the first; a Num and a Bytes8 carry a number.
-fn token(rt: &impl Print, i: usize, kind: u8, carried: u64) -> io::Result<()> {
-    if i != 0 {
-        text(rt, ",")?;
-    }
-    match kind {
-        1 => told(rt, " Num ", carried),
-        2 => told(rt, " Bytes8 ", carried),
-        _ => {
-            text(rt, " ")?;
-            kind_name(rt, kind)
-        }
-    }
-}
-
-fn tokens(rt: &impl Print, kinds: &[u8], numbers: &[u64], records: usize) -> io::Result<()> {
-    for (i, (kind, carried)) in kinds.iter().zip(numbers).take(records).enumerate() {
-        token(rt, i, *kind, *carried)?;
-    }
-    Ok(())
-}
-
-// The place of a Bytes32.
-fn key_place(rt: &impl Print, kind: u8, place: u32) -> io::Result<()> {
-    if kind == 3 {
-        told(rt, " ", place as u64)?;
-    }
-    Ok(())
-}
-
-fn written(rt: &impl Print, answer: Written, kinds: &[u8], numbers: &[u64]) -> io::Result<()> {
-    match answer {
-        Written::Records {
-            records,
-            key_bytes: _,
-        } => {
-            text(rt, "0,")?;
-            tokens(rt, kinds, numbers, records)?;
-            text(rt, "\n")
-        }
-        Written::Refused(r) => refused(rt, r),
-    }
-}
-
-// The first command of a condition is on its left side.
-fn decoded(rt: &impl Print, answer: Decoded, first: u8) -> io::Result<()> {
-    match answer {
-        Decoded::Code { bytes, start } => {
-            told(rt, "0, position ", start as u64)?;
-            told(rt, ", code of ", bytes as u64)?;
-            told(rt, " bytes that begins with ", first as u64)?;
-            text(rt, "\n")
-        }
-        Decoded::Refused(r) => refused(rt, r),
-    }
-}
+// The amounts of two inputs without issuances.
+const NOT_ISSUED: Amounts<'static> = Amounts {
+    numbers: &[0, 0],
+    marks: &[0, 0],
+};
 
 // ---- the calls; `asked` is what stands before the answer
 
-// What is asked, and blanks up to where the answers stand.
-fn column(rt: &impl Print, asked: &str) -> io::Result<()> {
-    print!(rt; "{asked:<ASKED$}")
+// What is asked, and in a column of its own what is answered.
+fn answered<T: fmt::Display + Drop>(
+    rt: &impl Print,
+    asked: &str,
+    answer: Result<T, Refusal>,
+) -> io::Result<()> {
+    match answer {
+        Ok(words) => println!(rt; "{asked:<ASKED$}0, {words}"),
+        Err(refusal) => {
+            let refused = Refused(refusal);
+            println!(rt; "{asked:<ASKED$}{refused}")
+        }
+    }
 }
 
 fn check(rt: &impl Print, asked: &str, code: &[u8]) -> io::Result<()> {
-    column(rt, asked)?;
-    checked(rt, condition::check(code))
+    answered(rt, asked, condition::check(code).map(Passed))
 }
 
 // Two inputs, of explicit amounts 2^63 and 7, without issuances, and no outputs; the coins come in at `input`.
 fn evaluate(rt: &impl Print, asked: &str, code: &[u8], input: u64) -> io::Result<()> {
-    column(rt, asked)?;
-    let answer = evaluation::evaluate(
-        code,
-        &[0x8000_0000_0000_0000, 7],
-        &[1, 1],
-        &[],
-        &[],
-        &[0, 0],
-        &[0, 0],
-        &[0, 0],
-        &[0, 0],
-        input,
-        &[],
-        &[],
-        &mut [],
-    );
-    evaluated(rt, answer)
+    let transaction = Transaction {
+        spent: Amounts {
+            numbers: &[0x8000_0000_0000_0000, 7],
+            marks: &[1, 1],
+        },
+        outputs: NO_AMOUNTS,
+        issued: NOT_ISSUED,
+        reissued: NOT_ISSUED,
+        current: input,
+    };
+    let answer = evaluation::evaluate(code, &transaction, &[], &[], &mut []);
+    answered(rt, asked, answer.verdict)
 }
 
-// What the host is to verify.
-fn check_listed(rt: &impl Print, time: u8, price: u8) -> io::Result<()> {
-    column(rt, "      time and price of its check")?;
-    number(rt, time as u64)?;
-    told(rt, ", ", price as u64)?;
-    text(rt, "\n")
-}
-
-// The price of the oracle with the key 4, 5, .. 35 is at least 9, from time 5 on; with a quote of 9 for a time.
+// The price of the oracle with the key 4, 5, .. 35 is at least 9, from time 5 on; with a quote of 9 for a time. Shown too is the check that the host is to verify.
 fn evaluate_quote(rt: &impl Print, asked: &str, time: u8) -> io::Result<()> {
     let code =
         b"\x20\x04\x05\x06\x07\x08\x09\x0a\x0b\x0c\x0d\x0e\x0f\x10\x11\x12\x13\x14\x15\x16\x17\x18\x19\x1a\x1b\x1c\x1d\x1e\x1f\x20\x21\x22\x23\x05\x00\x00\x00\x00\x00\x00\x00\x10\x09\x00\x00\x00\x00\x00\x00\x00\x34";
@@ -213,46 +77,36 @@ fn evaluate_quote(rt: &impl Print, asked: &str, time: u8) -> io::Result<()> {
     witness[64] = time;
     witness[72] = 9;
     let mut checks = [0u8; 112];
-    let answer = evaluation::evaluate(
-        code,
-        &[],
-        &[],
-        &[],
-        &[],
-        &[],
-        &[],
-        &[],
-        &[],
-        0,
-        &witness,
-        &[64, 72, 80],
-        &mut checks,
-    );
-    let listed = answer.checks;
-    column(rt, asked)?;
-    evaluated(rt, answer)?;
-    if listed == 1 {
-        check_listed(rt, checks[32], checks[40])?;
+    let transaction = Transaction {
+        spent: NO_AMOUNTS,
+        outputs: NO_AMOUNTS,
+        issued: NO_AMOUNTS,
+        reissued: NO_AMOUNTS,
+        current: 0,
+    };
+    let answer = evaluation::evaluate(code, &transaction, &witness, &[64, 72, 80], &mut checks);
+    answered(rt, asked, answer.verdict)?;
+    if answer.checks == 1 {
+        let shown = "      time and price of its check";
+        let time = checks[32];
+        let price = checks[40];
+        println!(rt; "{shown:<ASKED$}{time}, {price}")?;
     }
     Ok(())
 }
 
 // The token form, of conditions without keys.
 fn write(rt: &impl Print, asked: &str, code: &[u8]) -> io::Result<()> {
-    column(rt, asked)?;
     let mut kinds = [0u8; 32];
     let mut numbers = [0u64; 32];
     let mut places = [0u32; 32];
     let answer = writer::write(code, &mut kinds, &mut numbers, &mut places, &mut []);
-    written(rt, answer, &kinds, &numbers)
-}
-
-// The places of the records that name a key.
-fn key_places(rt: &impl Print, kinds: &[u8], places: &[u32], records: usize) -> io::Result<()> {
-    for (kind, place) in kinds.iter().zip(places).take(records) {
-        key_place(rt, *kind, *place)?;
-    }
-    Ok(())
+    let tokens = answer.map(|written| Tokens {
+        kinds: &kinds,
+        numbers: &numbers,
+        records: written.records,
+    });
+    answered(rt, asked, tokens)
 }
 
 // What stands of the keys of three oracle terminals; each key is 31 zeros and a last byte.
@@ -273,26 +127,23 @@ fn write_keys(rt: &impl Print, asked: &str, first: u8, second: u8, third: u8) ->
     let mut places = [0u32; 48];
     let mut keys = [0u8; 96];
     let answer = writer::write(&code, &mut kinds, &mut numbers, &mut places, &mut keys);
-    column(rt, asked)?;
-    match answer {
-        Written::Records { records, key_bytes } => {
-            told(rt, "0, with ", key_bytes as u64)?;
-            text(rt, " key bytes; places")?;
-            key_places(rt, &kinds, &places, records)?;
-            text(rt, "\n")
-        }
-        Written::Refused(r) => refused(rt, r),
-    }
+    let places = answer.map(|written| Places {
+        key_bytes: written.key_bytes,
+        kinds: &kinds,
+        places: &places,
+        records: written.records,
+    });
+    answered(rt, asked, places)
 }
 
 // Up to 24 tokens; each that carries a key carries 4, 5, .. 35.
 fn decode(rt: &impl Print, asked: &str, kinds: &[u8], numbers: &[u64]) -> io::Result<()> {
     let key =
         b"\x04\x05\x06\x07\x08\x09\x0a\x0b\x0c\x0d\x0e\x0f\x10\x11\x12\x13\x14\x15\x16\x17\x18\x19\x1a\x1b\x1c\x1d\x1e\x1f\x20\x21\x22\x23";
-    column(rt, asked)?;
     let mut code = [0u8; ROOM];
     let answer = decoder::decode(kinds, numbers, &[0; 24], key, &mut code);
-    decoded(rt, answer, code[0])
+    let first = code[0];
+    answered(rt, asked, answer.map(|decoded| Tail { decoded, first }))
 }
 
 // ---- codes
@@ -310,13 +161,13 @@ fn constant(code: &mut [u8], at: usize, number: i64)
 }
 
 // x, y, the command of a binary operation, z, `Eq`
-fn binary(rt: &impl Print, asked: &str, x: i64, y: i64, command: u8, z: i64) -> io::Result<()> {
+fn binary(rt: &impl Print, asked: &str, x: i64, y: i64, op: BinOp, z: i64) -> io::Result<()> {
     let mut code = [0u8; 29];
     constant(&mut code, 0, x);
     constant(&mut code, 9, y);
-    code[18] = command;
+    code[18] = byte_of(Command::Binary(op));
     constant(&mut code, 19, z);
-    code[28] = 48;
+    code[28] = byte_of(Command::Compare(CmpOp::Eq));
     evaluate(rt, asked, &code, 0)
 }
 
@@ -324,9 +175,9 @@ fn binary(rt: &impl Print, asked: &str, x: i64, y: i64, command: u8, z: i64) -> 
 fn negated(rt: &impl Print, asked: &str, x: i64, y: i64) -> io::Result<()> {
     let mut code = [0u8; 20];
     constant(&mut code, 0, x);
-    code[9] = 31;
+    code[9] = byte_of(Command::Unary(UnOp::Negate));
     constant(&mut code, 10, y);
-    code[19] = 48;
+    code[19] = byte_of(Command::Compare(CmpOp::Eq));
     evaluate(rt, asked, &code, 0)
 }
 
@@ -340,26 +191,61 @@ fn five_is_five(rt: &impl Print) -> io::Result<()> {
 }
 
 fn division(rt: &impl Print) -> io::Result<()> {
-    binary(rt, " 2  Evaluate: -7 Div 2 Eq -4", -7, 2, DIV, -4)?;
-    binary(rt, "    Evaluate: -7 Mod 2 Eq 1", -7, 2, MOD, 1)?;
-    binary(rt, " 3  Evaluate: 7 Div -2 Eq -3", 7, -2, DIV, -3)?;
-    binary(rt, "    Evaluate: 7 Mod -2 Eq 1", 7, -2, MOD, 1)?;
-    binary(rt, " 4  Evaluate: -7 Div -2 Eq 4", -7, -2, DIV, 4)?;
-    binary(rt, "    Evaluate: -7 Mod -2 Eq 1", -7, -2, MOD, 1)?;
-    binary(rt, " 5  Evaluate: -2^63 Div -1 Eq 0", LEAST, -1, DIV, 0)?;
-    binary(rt, "    Evaluate: -2^63 Mod -1 Eq 0", LEAST, -1, MOD, 0)?;
-    binary(rt, "    Evaluate: -2^63 Div 0 Eq 0", LEAST, 0, DIV, 0)?;
-    binary(rt, "    Evaluate: -2^63 Mod 0 Eq 0", LEAST, 0, MOD, 0)
+    binary(rt, " 2  Evaluate: -7 Div 2 Eq -4", -7, 2, BinOp::Div, -4)?;
+    binary(rt, "    Evaluate: -7 Mod 2 Eq 1", -7, 2, BinOp::Mod, 1)?;
+    binary(rt, " 3  Evaluate: 7 Div -2 Eq -3", 7, -2, BinOp::Div, -3)?;
+    binary(rt, "    Evaluate: 7 Mod -2 Eq 1", 7, -2, BinOp::Mod, 1)?;
+    binary(rt, " 4  Evaluate: -7 Div -2 Eq 4", -7, -2, BinOp::Div, 4)?;
+    binary(rt, "    Evaluate: -7 Mod -2 Eq 1", -7, -2, BinOp::Mod, 1)?;
+    binary(
+        rt,
+        " 5  Evaluate: -2^63 Div -1 Eq 0",
+        i64::MIN,
+        -1,
+        BinOp::Div,
+        0,
+    )?;
+    binary(
+        rt,
+        "    Evaluate: -2^63 Mod -1 Eq 0",
+        i64::MIN,
+        -1,
+        BinOp::Mod,
+        0,
+    )?;
+    binary(
+        rt,
+        "    Evaluate: -2^63 Div 0 Eq 0",
+        i64::MIN,
+        0,
+        BinOp::Div,
+        0,
+    )?;
+    binary(
+        rt,
+        "    Evaluate: -2^63 Mod 0 Eq 0",
+        i64::MIN,
+        0,
+        BinOp::Mod,
+        0,
+    )
 }
 
 fn limits(rt: &impl Print) -> io::Result<()> {
-    binary(rt, " 6  Evaluate: 2^63 - 1 Add 1 Eq 0", GREATEST, 1, ADD, 0)?;
-    negated(rt, " 7  Evaluate: Negate -2^63 Eq 0", LEAST, 0)?;
+    binary(
+        rt,
+        " 6  Evaluate: 2^63 - 1 Add 1 Eq 0",
+        i64::MAX,
+        1,
+        BinOp::Add,
+        0,
+    )?;
+    negated(rt, " 7  Evaluate: Negate -2^63 Eq 0", i64::MIN, 0)?;
     negated(
         rt,
         "    Evaluate: Negate -2^63 + 1 Eq 2^63 - 1",
-        LEAST + 1,
-        GREATEST,
+        i64::MIN + 1,
+        i64::MAX,
     )?;
     let code = b"\x11\x10\x00\x00\x00\x00\x00\x00\x00\x80\x30";
     evaluate(rt, " 8  Evaluate: CurrInputIdx Eq -2^63", code, 0)
@@ -507,17 +393,14 @@ fn quotes(rt: &impl Print) -> io::Result<()> {
 }
 
 fn main(rt: HostRuntime) -> io::Result<()> {
-    text(
-        &rt,
-        "no  asked                                                           answered\n",
-    )?;
+    println!(rt; "no  asked                                                           answered")?;
     five_is_five(&rt)?;
     division(&rt)?;
     limits(&rt)?;
     tails(&rt)?;
     oracle_rule(&rt)?;
     indexes(&rt)?;
-    text(&rt, "\nbeside document 01's thirteen\n")?;
+    println!(rt; "\nbeside document 01's thirteen")?;
     oracle_rule_decoded(&rt)?;
     index_values(&rt)?;
     index_product(&rt)?;

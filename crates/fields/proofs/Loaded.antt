@@ -1,10 +1,11 @@
 -- From arrays of fields to records: what Decode gives for the fields that were loaded it gives for the records, and what Write wrote as fields is stored as records.
-use Prim.Native.Nat.{ℕ, ◌≤◌, ◌<◌}
+use Rattle.std.proofs.Common.{Result, Err}
+use Prim.Native.Nat.{ℕ, ◌≤◌, ◌<◌, min}
 use mathlib.Core.Bool.{Bool, true, false, cond}
 use mathlib.Core.Path.{◌≡◌, refl, sym, ap, ◌∙◌, subst, transport}
 use mathlib.Core.List.{List, ◌++◌, map}
 use native.Mathlib.Omega.{arith}
-use borrow.Author.Tests.{le-leb, leb-false, leb-true}
+use borrow.Author.Tests.{le-leb, leb-false, leb-true, lt-leb}
 use lib.ListN.{length, take, drop, length-map}
 use lib.Seq.{length-take-le, take_at, take-length}
 use lib.Dec.{leb}
@@ -32,13 +33,13 @@ pub loaded_few : (count : ℕ) → count ≤ max_tokens → loadable count ≡ c
 loaded_few count h = rw (le-leb count max_tokens h)
 
 module _ (rs : List TokenRecord) (keys old new : List ℕ) (r : DecodeAnswer) where
-  pub refuses : max_tokens < length rs → r ≡ decode_answer (Decoded.Refused Refusal.TooManyRecords) → new ≡ old → DecodesRecords rs keys old new r
+  pub refuses : max_tokens < length rs → r ≡ decode_answer (Err Refusal.TooManyRecords) → new ≡ old → DecodesRecords rs keys old new r
   refuses h e f =
-      let d : decoded (fields_of rs keys) old ≡ record { answer = Decoded.Refused Refusal.TooManyRecords; buffer = old } = too_many_records (fields_of rs keys) old (rw length-map h) in
+      let d : decoded (fields_of rs keys) old ≡ record { answer = Err Refusal.TooManyRecords; buffer = old } = too_many_records (fields_of rs keys) old (rw length-map h) in
       let many : length (kinds_of rs) ≤ max_tokens → ⊥ = λ few. omega (arith, h, few, length-map rs (λ (t : TokenRecord). t.kind)) in
       record { answer = rw d e; buffer = rw d f; unambiguous = λ few. absurd (many few); told_apart = λ few. absurd (many few) }
 
-  pub decodes : (kinds numbers places : List ℕ) (d : Decoded) (count : ℕ) → length rs ≡ count → count ≤ max_tokens → Loaded rs kinds numbers places
+  pub decodes : (kinds numbers places : List ℕ) (d : Result Decoded Refusal) (count : ℕ) → length rs ≡ count → count ≤ max_tokens → Loaded rs kinds numbers places
       → record { answer = d; buffer = new } ≡ decoded (record { kinds = take count kinds; numbers = take count numbers; places = take count places; keys = keys }) old
       → CallUnambiguous (record { kinds = take count kinds; numbers = take count numbers; places = take count places; keys = keys }) old (CallAccepts d new)
       → CallToldApart (record { kinds = take count kinds; numbers = take count numbers; places = take count places; keys = keys }) old (decoded_number d)
@@ -88,15 +89,18 @@ writable_few count = by (leb count max_tokens) refl
     by true e = (omega arith, leb-true count max_tokens e)
     by false e = (omega (arith, leb-false count max_tokens e), omega arith)
 
-pub writable_all : (count : ℕ) → count ≤ max_tokens → count ≡ writable count
-writable_all count h = rw (le-leb count max_tokens h)
-
-pub writable_most : (count : ℕ) → max_tokens ≤ count → max_tokens ≡ writable count
-writable_most count h = by (leb count max_tokens) refl
+pub writable_min : (count : ℕ) → min count max_tokens ≡ writable count
+writable_min count = by (leb count max_tokens) refl
   where
-    by : (t : Bool) → leb count max_tokens ≡ t → max_tokens ≡ cond t count max_tokens
-    by true e = omega (arith, h, leb-true count max_tokens e)
-    by false e = refl
+    by : (t : Bool) → leb count max_tokens ≡ t → min count max_tokens ≡ cond t count max_tokens
+    by true e = omega (arith, leb-true count max_tokens e)
+    by false e = omega (arith, leb-false count max_tokens e)
+
+pub loadable_all : (count : ℕ) → count ≤ max_tokens → count ≡ loadable count
+loadable_all count h = rw (le-leb count max_tokens h)
+
+pub loadable_none : (count : ℕ) → max_tokens < count → 0 ≡ loadable count
+loadable_none count h = rw (lt-leb count max_tokens h)
 
 -- a form that has room in all records has room in those
 writable_same : (count t : ℕ) → t ≤ max_tokens → leb t count ≡ leb t (writable count)

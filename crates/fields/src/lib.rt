@@ -1,4 +1,5 @@
-// Write and Decode where the fields of token records stand in slices of numbers: what they answer is said of the records.
+// Write and Decode where the fields of token records stand in slices of numbers: what they answer is said of the records. The slices are no struct, as those of
+// `token_form::write_records`.
 #![tactic(auto)]
 
 ghost use Rattle.std.specs.Prelude.{◌≡◌, List, ◌≤◌, length};
@@ -7,9 +8,10 @@ ghost use Rattle.records.specs.declared.TokenRecord.{TokenRecord};
 ghost use Rattle.fields.specs.TokenRecords.{DecodesRecords, Loaded, WritesFields, loadable, writable};
 
 use answers::{DecodeAnswer, WriteAnswer, decode_answer, write_answer};
-use semantics::{Decoded, MAX_TOKENS, Refusal};
+use semantics::{MAX_TOKENS, Refusal};
 
 // All of so many records, or none where refusal 10 falls.
+#[tactic(auto, using(crate::proofs::Loaded::loadable_all, crate::proofs::Loaded::loadable_none))]
 pub fn to_load(count: usize) -> usize
     ensures { result ≡ loadable count }
 {
@@ -29,7 +31,7 @@ pub fn decode_loaded(
     ensures { (rs : List TokenRecord) → length rs ≡ count → Loaded rs kinds.now numbers.now places.now → DecodesRecords rs keys.now code.old code.new result }
 {
     if MAX_TOKENS < count {
-        return decode_answer(Decoded::Refused(Refusal::TooManyRecords));
+        return decode_answer(Err(Refusal::TooManyRecords));
     }
     decode_answer(decoder::decode(
         &kinds[..count],
@@ -41,14 +43,11 @@ pub fn decode_loaded(
 }
 
 // Of so many records those that a form can reach.
+#[tactic(auto, using(crate::proofs::Loaded::writable_min))]
 fn to_write(count: usize) -> usize
     ensures { result ≡ writable count }
 {
-    if MAX_TOKENS <= count {
-        MAX_TOKENS
-    } else {
-        count
-    }
+    count.min(MAX_TOKENS)
 }
 
 // Write, for so many records: their fields stand at the front of the slices then.

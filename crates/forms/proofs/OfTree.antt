@@ -1,5 +1,6 @@
 -- The marks of a tree's commands, and that the tokens of these commands with these marks are the tree's form: `emitted-form`.
 -- Refusal 6 by the commands is that by the form: `narrow-emitted`. Both of code that passes: `tokens_are`, `narrow_is`.
+use Rattle.std.proofs.Common.{Ok}
 use Prim.Native.Nat.{ℕ}
 use mathlib.Core.Bool.{Bool, true, false}
 use mathlib.Core.Path.{◌≡◌, refl, sym, ap, ◌∙◌}
@@ -144,7 +145,7 @@ narrow-emitted c marks =
 
 -- ---- of code that passes: it is a tree's
 
-module _ (b : List ℕ) (bytes : Bytes b) (t m : ℕ) (passes : checked b ≡ Checked.Passed t m) where
+module _ (b : List ℕ) (bytes : Bytes b) (t m : ℕ) (passes : checked b ≡ Ok (record { tokens = t; oracles = m })) where
   pub known : Passed b t m
   known = passed b bytes t m passes
 

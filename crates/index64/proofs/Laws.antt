@@ -1,30 +1,29 @@
 -- A signed 64-bit result is an index exactly where the whole number is.
+use Rattle.std.proofs.Common.{Some, None}
 use Prim.Native.Nat.{◌≤◌, ◌-◌, ◌^◌}
 use mathlib.Core.Path.{◌≡◌, refl}
 use mathlib.Core.Bool.{Bool, true, false, cond}
-use mathlib.Core.Option.{none}
 use native.Mathlib.Omega.{arith}
 use lib.Dec.{ltb, eqb}
 use lib.IntN.{ℤ, pos, negsuc, nat_abs, ◌+ℤ◌, ◌-ℤ◌, ◌*ℤ◌}
 use lib.Signed.{mag}
 use borrow.Author.Tests.{lt-leb, ltb-false}
-use Rattle.num64.specs.declared.Signed64.{Signed64}
 use Rattle.num64.specs.Exact.{fitted, quotient, checked_add, checked_sub, checked_mul, checked_div}
 use Rattle.index64.specs.Steps.{in_range, within, idx_add, idx_sub, idx_mul, idx_div}
 
 -- what 64 bits don't hold is no index
-outside : (z : ℤ) → 2 ^ 63 ≤ mag z → none ≡ in_range z
+outside : (z : ℤ) → 2 ^ 63 ≤ mag z → None ≡ in_range z
 outside (pos n) h = rw (lt-leb n (2 ^ 31 - 1) (omega arith))
 outside (negsuc n) h = rw (lt-leb n (2 ^ 31 - 2) (omega arith))
 
-pub within-fitted : (z : ℤ) → within (fitted z) ≡ in_range z
+within-fitted : (z : ℤ) → within (fitted z) ≡ in_range z
 within-fitted z = go (ltb (mag z) (2 ^ 63)) refl
   where
-    go : (t : Bool) → ltb (mag z) (2 ^ 63) ≡ t → within (cond t (Signed64.Value z) Signed64.Overflow) ≡ in_range z
+    go : (t : Bool) → ltb (mag z) (2 ^ 63) ≡ t → within (cond t (Some z) None) ≡ in_range z
     go true e = refl
     go false e = outside z (ltb-false (mag z) (2 ^ 63) e)
 
-within-unless : (b : Bool) (z : ℤ) → within (cond b Signed64.Overflow (fitted z)) ≡ cond b none (in_range z)
+within-unless : (b : Bool) (z : ℤ) → within (cond b None (fitted z)) ≡ cond b None (in_range z)
 within-unless true z = refl
 within-unless false z = within-fitted z
 

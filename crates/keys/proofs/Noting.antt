@@ -1,14 +1,17 @@
 -- Keys noted by their positions: one is found among them, one more is noted, and those of all commands up to a position of the code are.
+use Rattle.std.proofs.Common.{ltb, Some, None, is_some, unwrap_or}
 use Prim.Native.Nat.{ℕ, zero, suc, ◌+◌, ◌-◌, ◌≤◌, ◌<◌}
 use mathlib.Core.Bool.{Bool, true, false, cond}
 use mathlib.Core.Path.{◌≡◌, refl, sym, ap, ◌∙◌}
 use mathlib.Core.List.{List, [], ◌∷◌, ◌++◌, map, map-append}
 use native.Mathlib.Numerals.{add-one}
 use native.Mathlib.Omega.{arith}
-use borrow.Author.Tests.{eq-eqb, eqb-true, le-ltb, lt-ltb, ne_eqb}
+use Rattle.std.proofs.lemmas.Bool.{ltb-false}
+use Rattle.semantics.proofs.Placing.{index_most}
+use borrow.Author.Tests.{eq-eqb, eqb-true, le-ltb, lt-ltb}
 use lib.Dec.{eqb}
 use lib.ListN.{length, get_or, set, take, drop, length-map, length-set}
-use lib.Seq.{drop-cons, drop-length, get_or-take, length-take-le, take-suc-set}
+use lib.Seq.{drop-cons, drop-length, take-suc-set}
 use Rattle.slices.specs.Bytes.{All}
 use Rattle.slices.proofs.Bytes.{all_join}
 use Rattle.semantics.specs.Code.{command_row}
@@ -21,7 +24,7 @@ use Rattle.commands.specs.Cursor.{cursor_at}
 use Rattle.commands.specs.declared.Cursor.{Cursor}
 use Rattle.condition.specs.Walk.{Passed, next, start}
 use Rattle.condition.proofs.Position.{Position, passes_on, position_below, position_next, position_start}
-use Rattle.keys.specs.Keys.{KeysFound, Noted, OneMore, code_keys, key_at, key_step, keys_at}
+use Rattle.keys.specs.Keys.{Inside, KeysFound, OneMore, code_keys, key_at, key_step, keys_at, place_among}
 
 -- the first 32 of 40 operand bytes are the key at their position
 pub key_of : {X : Type 0} (f : List ℕ → X) (x : X) (code : List ℕ) (at width : ℕ)
@@ -32,81 +35,88 @@ key_of f x code at width = go (eqb width 40) refl
     go true e = rw (eqb-true width 40 e, key_at_lem code at)
     go false e = refl
 
-module _ (code positions : List ℕ) (n : ℕ) (a : Noted code positions n) where
-  abbrev noted : List ℕ
-  noted = take n positions
+module _ (code positions : List ℕ) where
+  pub keys-count : length (keys_at code positions) ≡ length positions
+  keys-count = length-map positions (key_at code)
 
-  noted-count : length noted ≡ n
-  noted-count = length-take-le n positions a.there
-
-  pub position_inside : (j : ℕ) → j < n → get_or positions j 0 + 32 ≤ length code
-  position_inside j h = rw (get_or-take n positions j 0 h) at (all_at noted j (omega (arith, noted-count)) a.inside)
+  pub position_inside : Inside code positions → (j : ℕ) → j < length positions → get_or positions j 0 + 32 ≤ length code
+  position_inside inside j h = all_at positions j h inside
     where
       all_at : (ps : List ℕ) (i : ℕ) → i < length ps → All (λ p. p + 32 ≤ length code) ps → get_or ps i 0 + 32 ≤ length code
       all_at [] i l all = absurd (omega arith)
       all_at (p ∷ ps) zero l all = all.0
       all_at (p ∷ ps) (suc i) l all = all_at ps i (omega arith) all.1
 
-  pub keys-count : length (keys_at code positions n) ≡ n
-  keys-count = length-map noted (key_at code) ∙ noted-count
-
   -- ---- found: how many keys stand before it from the j-th on
 
   abbrev pub from : List ℕ → ℕ → ℕ
-  from key j = index_of key (map (key_at code) (drop j noted))
+  from key j = index_of key (keys_at code (drop j positions))
 
   module _ (key : List ℕ) (j : ℕ) where
-    from-turn : j < n → from key j ≡ cond (same_bytes (key_at code (get_or positions j 0)) key) 0 (suc (from key (j + 1)))
+    from-turn : j < length positions → from key j ≡ cond (same_bytes (key_at code (get_or positions j 0)) key) 0 (suc (from key (j + 1)))
     unfolding index_of
-    from-turn h = rw (drop-cons noted j 0 (omega (arith, noted-count)), get_or-take n positions j 0 h, add-one j)
+    from-turn h = rw (drop-cons positions j 0 h, add-one j)
 
-    pub from-here : j < n → same_bytes (key_at code (get_or positions j 0)) key ≡ true → from key j ≡ 0
-    from-here h e = from-turn h ∙ rw e
+    pub from_here : j < length positions → same_bytes (key_at code (get_or positions j 0)) key ≡ true → from key j ≡ 0
+    from_here h e = from-turn h ∙ rw e
 
-    pub from_later : j < n → same_bytes (key_at code (get_or positions j 0)) key ≡ false → from key j ≡ suc (from key (j + 1))
+    pub from_later : j < length positions → same_bytes (key_at code (get_or positions j 0)) key ≡ false → from key j ≡ suc (from key (j + 1))
     from_later h e = from-turn h ∙ rw e
 
-    pub from_end : j ≡ n → from key j ≡ 0
-    unfolding index_of
-    from_end e =
-        let f : drop j noted ≡ [] = ap (λ (k : ℕ). drop k noted) (e ∙ sym noted-count) ∙ drop-length noted in
-        rw f
+  pub from_end : (key : List ℕ) → from key (length positions) ≡ 0
+  unfolding index_of
+  from_end key = rw (drop-length positions)
 
-  -- ---- noted
+  pub placed : (key : List ℕ) (j : ℕ) → j < length positions → index_of key (keys_at code positions) ≡ j → place_among key (keys_at code positions) ≡ Some j
+  placed key j h e = rw (e, keys-count, lt-ltb j (length positions) h)
 
-  module _ (width at : ℕ) where
-    pub noted_none : (width ≡ 40 → ⊥) → OneMore code width at positions n positions n
-    noted_none e = record { keys = rw (ne_eqb width 40 e); noted = a; few = omega arith; long = refl }
+  pub not_placed : (key : List ℕ) → index_of key (keys_at code positions) ≡ length positions → place_among key (keys_at code positions) ≡ None
+  not_placed key e = rw (e, keys-count, le-ltb (length positions) (length positions) (omega arith))
 
-    module _ (e : width ≡ 40) where
-      pub noted_again : index_of (key_at code at) (keys_at code positions n) < n → OneMore code width at positions n positions n
-      unfolding with_key
-      noted_again h =
-          let there = lt-ltb (index_of (key_at code at) (keys_at code positions n)) (length (keys_at code positions n)) (rw keys-count h) in
-          record { keys = rw (eq-eqb width 40 e, there); noted = a; few = omega arith; long = refl }
+  -- a key that is not among them would stand behind them
+  pub place_or_end : (key : List ℕ) → unwrap_or (place_among key (keys_at code positions)) (length positions) ≡ index_of key (keys_at code positions)
+  place_or_end key = go (ltb (index_of key (keys_at code positions)) (length (keys_at code positions))) refl
+    where
+      go : (b : Bool) → ltb (index_of key (keys_at code positions)) (length (keys_at code positions)) ≡ b
+          → unwrap_or (cond b (Some (index_of key (keys_at code positions))) None) (length positions) ≡ index_of key (keys_at code positions)
+      go true e = refl
+      go false e = omega (arith, keys-count, index_most key (keys_at code positions), ltb-false _ _ e)
 
-      pub noted-new : n ≤ index_of (key_at code at) (keys_at code positions n) → at + 32 ≤ length code → n < length positions
-          → OneMore code width at positions n (set positions n at) (n + 1)
-      unfolding with_key
-      noted-new h w l =
-          let new = le-ltb (index_of (key_at code at) (keys_at code positions n)) (length (keys_at code positions n)) (rw keys-count h) in
-          let t : take (n + 1) (set positions n at) ≡ noted ++ at ∷ [] = rw (add-one n) (take-suc-set positions n at l) in
-          record {
-            keys = rw (eq-eqb width 40 e, new) (ap (map (key_at code)) t ∙ map-append (key_at code) noted (at ∷ []));
-            noted = record {
+-- ---- noted
+
+module _ (code positions : List ℕ) (n : ℕ) (there : n ≤ length positions) (inside : Inside code (take n positions)) (width at : ℕ) where
+  abbrev noted : List ℕ
+  noted = take n positions
+
+  module _ (e : width ≡ 40) where
+    pub noted_again : true ≡ is_some (place_among (key_at code at) (keys_at code noted)) → OneMore code width at positions n positions n
+    unfolding with_key
+    noted_again found = go (ltb (index_of (key_at code at) (keys_at code noted)) (length (keys_at code noted))) refl found
+      where
+        go : (b : Bool) → ltb (index_of (key_at code at) (keys_at code noted)) (length (keys_at code noted)) ≡ b
+            → true ≡ is_some (cond b (Some (index_of (key_at code at) (keys_at code noted))) None) → OneMore code width at positions n positions n
+        go true q f = record { keys = rw (eq-eqb width 40 e, q); inside = inside; there = there; few = omega arith; long = refl }
+        go false q f = absurd (let z : ◌≡◌ {A = ℕ} 0 1 = cc in omega arith)
+
+    pub noted_new : false ≡ is_some (place_among (key_at code at) (keys_at code noted)) → at + 32 ≤ length code → n < length positions
+        → OneMore code width at positions n (set positions n at) (n + 1)
+    unfolding with_key
+    noted_new found w l = go (ltb (index_of (key_at code at) (keys_at code noted)) (length (keys_at code noted))) refl found
+      where
+        t : take (n + 1) (set positions n at) ≡ noted ++ at ∷ []
+        t = rw (add-one n) (take-suc-set positions n at l)
+
+        go : (b : Bool) → ltb (index_of (key_at code at) (keys_at code noted)) (length (keys_at code noted)) ≡ b
+            → false ≡ is_some (cond b (Some (index_of (key_at code at) (keys_at code noted))) None) → OneMore code width at positions n (set positions n at) (n + 1)
+        go true q f = absurd (let z : ◌≡◌ {A = ℕ} 0 1 = cc in omega arith)
+        go false q f =
+            record {
+              keys = rw (eq-eqb width 40 e, q) (ap (map (key_at code)) t ∙ map-append (key_at code) noted (at ∷ []));
+              inside = rw t (all_join (λ p. p + 32 ≤ length code) noted (at ∷ []) inside (w, tt));
               there = simp length-set (omega arith);
-              inside = rw t (all_join (λ p. p + 32 ≤ length code) noted (at ∷ []) a.inside (w, tt));
-            };
-            few = omega arith;
-            long = length-set positions n at;
-          }
-
-pub none_found : (code positions : List ℕ) → length (code_keys code) ≤ 0 → KeysFound code positions 0
-none_found code positions h = record { keys = sym (empty (code_keys code) h); noted = record { there = omega arith; inside = tt } }
-  where
-    empty : (ks : List (List ℕ)) → length ks ≤ 0 → ks ≡ []
-    empty [] l = refl
-    empty (k ∷ ks) l = absurd (omega arith)
+              few = omega arith;
+              long = length-set positions n at;
+            }
 
 -- ---- all commands up to a position: n keys are noted
 
@@ -117,8 +127,9 @@ pub record Noting (code : List ℕ) (size : ℕ) (positions : List ℕ) (at n : 
   pub position : Position code all.last here at commands
   pub few : n ≤ commands
   pub long : length positions ≡ size
-  pub noted : Noted code positions n
-  pub left : fold key_step (keys_at code positions n) (instructions (drop at code)) ≡ code_keys code
+  pub there : n ≤ length positions
+  pub inside : Inside code (take n positions)
+  pub left : fold key_step (keys_at code (take n positions)) (instructions (drop at code)) ≡ code_keys code
 
 pub noting_none : (code positions : List ℕ) → Passed code (λ s. s.tokens ≤ length positions) → Noting code (length positions) positions 0 0
 unfolding code_keys
@@ -130,13 +141,14 @@ noting_none code positions p =
       position = position_start code p.last p.walk;
       few = omega arith;
       long = refl;
-      noted = record { there = omega arith; inside = tt };
+      there = omega arith;
+      inside = tt;
       left = refl;
     }
 
 module _ (code : List ℕ) (size : ℕ) (positions : List ℕ) (at n : ℕ) (g : Noting code size positions at n) where
-  pub noting_done : length code ≤ at → KeysFound code positions n
-  noting_done h = record { keys = sym (fold-ends key_step code at h (keys_at code positions n)) ∙ g.left; noted = g.noted }
+  pub noting_done : length code ≤ at → KeysFound code (take n positions)
+  noting_done h = record { keys = sym (fold-ends key_step code at h (keys_at code (take n positions))) ∙ g.left; inside = g.inside }
 
   module _ (inside : at < length code) where
     abbrev width : ℕ
@@ -152,9 +164,9 @@ module _ (code : List ℕ) (size : ℕ) (positions : List ℕ) (at n : ℕ) (g :
     pub noting_next : (here : Cursor) → here ≡ cursor_at code at → (new : List ℕ) (m : ℕ)
         → OneMore code (here.next - here.operands) here.operands positions n new m → Noting code size new here.next m
     noting_next here e new m w =
-        let ks = keys_at code positions n in
+        let ks = keys_at code (take n positions) in
         let bytes : here.next - here.operands ≡ width = rw e (omega arith) in
-        let keys : keys_at code new m ≡ key_step ks (command_at code at) (operands_at code at) =
+        let keys : keys_at code (take m new) ≡ key_step ks (command_at code at) (operands_at code at) =
         w.keys ∙ rw (bytes, e, add-one at) (sym (key_of (with_key ks) ks code (suc at) width)) in
         rw e
         record {
@@ -164,6 +176,7 @@ module _ (code : List ℕ) (size : ℕ) (positions : List ℕ) (at n : ℕ) (g :
           position = position_next code g.all.last g.here at g.commands g.position inside;
           few = omega (arith, w.few, g.few);
           long = w.long ∙ g.long;
-          noted = w.noted;
+          there = w.there;
+          inside = w.inside;
           left = rw keys (sym (fold_takes key_step code at inside ks) ∙ g.left);
         }

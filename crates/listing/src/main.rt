@@ -29,6 +29,7 @@ fn read_input<R: io::Read>(input: &mut R, code: &mut [u8]) -> io::Result<usize>
     ensures taken { Taken (R.remaining input.old) (R.remaining input.new) result code.new }
 {
     let mut n = 0;
+    // only the reader says how far a read comes
     while n < code.len() {
         let more = input.read(&mut code[n..])?;
         if more == 0 {

@@ -1,11 +1,10 @@
 -- Division towards zero, and Euclid's in one step from it. Where 30 and 31 don't fall, both fit in 64 bits.
-use Rattle.std.proofs.Common.{◌≡◌, ℕ, zero, suc, ◌+◌, ◌-◌, ◌*◌, ◌/◌, ◌%◌, ◌^◌, ◌<◌, ◌≤◌, Bool, true, false, not, T, eqb, ltb, ℤ, pos, negsuc, ◌+ℤ◌, ◌-ℤ◌, ◌*ℤ◌, neg_ℤ, nat_abs, ◌≤ℤ◌, ◌<ℤ◌, sym, refl, ap, ◌∙◌, subst, true≢false, suc-le-suc, zero-le, lt_of_le_of_lt, mod-lt, zero-lt-suc, mul-zero, div-le_self, arith, le→leb, ltb→lt, lt→ltb, to_z-of_z, w64, SFits, to_z, of_z, ltb-false, ltb-true, le-ltb, lt-ltb, ne_eqb, eqb-true}
+use Rattle.std.proofs.Common.{◌≡◌, ℕ, zero, suc, ◌+◌, ◌-◌, ◌*◌, ◌/◌, ◌%◌, ◌^◌, ◌<◌, ◌≤◌, Bool, true, false, eqb, ltb, ℤ, pos, negsuc, ◌+ℤ◌, ◌-ℤ◌, ◌*ℤ◌, neg_ℤ, nat_abs, ◌≤ℤ◌, ◌<ℤ◌, sym, refl, ap, ◌∙◌, true≢false, suc-le-suc, zero-le, lt_of_le_of_lt, mod-lt, zero-lt-suc, mul-zero, div-le_self, arith, le→leb, ltb→lt, lt→ltb, to_z-of_z, w64, SFits, to_z, of_z, ltb-false, ltb-true, le-ltb, lt-ltb, ne_eqb, eqb-true, Some, None}
 use mathlib.Core.Bool.{false≢true, and-false, or-false}
 use native.Mathlib.Nat.{div-add-mod, div-lt_self}
 use borrow.Author.Tests.{eqb-false}
 use lib.IntN.{pred_ℤ, suc_ℤ, neg_ℤ-+ℤ, +ℤ_assoc, +ℤ_comm, *ℤ_comm, -ℤ_one, +ℤ_one, pred_ℤ-*ℤ, suc_ℤ-*ℤ, -ℤ-+ℤ_cancel, +ℤ-neg_ℤ_cancel}
-use lib.Signed.{mag, mag_rem, nat_abs-le, lt_z, quot_z, rem_z, ≤ℤ_refl, lt_z_yes, lt_z_no}
-use Rattle.num64.specs.declared.Signed64.{Signed64}
+use lib.Signed.{mag, mag_rem, nat_abs-le, quot_z, rem_z, ≤ℤ_refl}
 use Rattle.num64.specs.Exact.{quotient, remainder, checked_div, checked_rem}
 use Rattle.num64.specs.SignCases.{Euclidean, no_quotient}
 use Rattle.num64.proofs.Euclid.{rest_lt, both, euclid_only, only_least}
@@ -161,24 +160,24 @@ module _ {a b : ℤ} (g : Given a b) where
     remainder-fits : SFits w64 r
     remainder-fits = record { sfits = rw (only a b q r e).1 (omega (arith, rest_lt a (nat_abs b) nonzero_b, nat_abs-le b g.fits_b.sfits)) }
 
-    pub div_is : Signed64.Value q ≡ checked_div a b
+    pub div_is : Some q ≡ checked_div a b
     unfolding checked_div
     div_is = rw (ne_eqb (nat_abs b) 0 (λ z. omega (arith, nonzero_b)), ← (only a b q r e).0, lt-ltb (mag q) (2 ^ 63) quotient_fits.sfits)
 
-    pub rem_is : Signed64.Value r ≡ checked_rem a b
+    pub rem_is : Some r ≡ checked_rem a b
     unfolding checked_rem
     rem_is = rw (← div_is, (only a b q r e).1)
 
 -- ---- where 30 and 31 fall
 
-pub no_quotient_lem : (a b : ℤ) → no_quotient a b ≡ true → Signed64.Overflow ≡ checked_div a b
+pub no_quotient_lem : (a b : ℤ) → no_quotient a b ≡ true → None ≡ checked_div a b
 unfolding checked_div
 no_quotient_lem a (pos n) u = rw (sym (by_pos a n) ∙ u)
 no_quotient_lem (pos m) (negsuc n) u = absurd (false≢true (sym (and-false (eqb n 0)) ∙ u))
 no_quotient_lem (negsuc m) (negsuc zero) u = rw (eqb-true m (2 ^ 63 - 1) u)
 no_quotient_lem (negsuc m) (negsuc (suc n)) u = absurd (false≢true (rw (ne_eqb (suc n) 0 (λ e. omega arith)) at u))
 
-pub no_remainder : (a b : ℤ) → no_quotient a b ≡ true → Signed64.Overflow ≡ checked_rem a b
+pub no_remainder : (a b : ℤ) → no_quotient a b ≡ true → None ≡ checked_rem a b
 unfolding checked_rem
 no_remainder a b u = rw (← no_quotient_lem a b u)
 
@@ -195,16 +194,6 @@ some_left (negsuc m) b h e = go (suc m % nat_abs b) e
     go : (t : ℕ) → (of_z w64 (neg_ℤ (pos t)) ≡ 0 → ⊥) → neg_ℤ (pos t) <ℤ pos 0
     go zero e = absurd (e refl)
     go (suc t) e = record { lt = tt }
-
-pub is_negative : {a : ℤ} → lt_z a (pos 0) ≡ true → a <ℤ pos 0
-is_negative e = lt_z_yes (subst T (sym e) tt)
-
-pub is_nonnegative : {a : ℤ} → lt_z a (pos 0) ≡ false → pos 0 ≤ℤ a
-is_nonnegative e = lt_z_no (subst T (sym (ap not e)) tt)
-
-pub is_positive : (a b : ℤ) → no_quotient a b ≡ false → pos 0 ≤ℤ b → pos 0 <ℤ b
-is_positive a (pos n) u h = record { lt = lt→ltb 0 n (nonzero a (pos n) u) }
-is_positive a (negsuc n) u h = absurd h.le
 
 -- ---- the operations of the code: operands and results are read from their bits
 

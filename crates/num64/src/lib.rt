@@ -1,177 +1,50 @@
 // 64-bit arithmetic: each contract is an equation with a definition of specs/ over whole numbers.
 #![tactic(auto)]
 
-ghost use Rattle.std.specs.Prelude.{◌≡◌, ◌+◌, ◌*◌, ◌^◌, ◌<◌, false, pos, neg_ℤ, ◌≤ℤ◌, ◌<ℤ◌, unsigned_abs};
-ghost use Rattle.num64.specs.Exact.{number, sign_of, unsigned};
+ghost use Rattle.std.specs.Prelude.{◌≡◌, false, pos, ◌≤ℤ◌, ◌<ℤ◌, option_map};
 ghost use Rattle.num64.specs.Exact.{checked_add, checked_sub, checked_mul, checked_neg, checked_div, checked_rem, fitted};
-ghost use Rattle.num64.specs.Crossing.{crossed};
 ghost use Rattle.num64.specs.SignCases.{Euclidean, no_quotient};
 
-const MAX: u64 = 0xffff_ffff_ffff_ffff;
-
-// 2^63: the bits from here on are those of negative numbers.
-const HALF: u64 = 0x8000_0000_0000_0000;
-
-// -2^63, the least signed number.
-const LEAST: i64 = -0x8000_0000_0000_0000;
-
-// A signed result, or Overflow where 64 bits hold none.
-#[derive(Clone, Copy)]
-pub enum Signed64 {
-    Value(i64),
-    Overflow,
-}
-
-// A whole number: n, or -(n + 1).
-#[derive(Clone, Copy)]
-enum Whole {
-    Pos(u64),
-    NegSuc(u64),
-}
-
-// An unsigned result, or Overflow where 64 bits hold none.
-#[derive(Clone, Copy)]
-enum Unsigned64 {
-    Value(u64),
-    Overflow,
-}
-
-// ---- between signed and whole numbers
-
-fn split(a: i64) -> Whole
-    ensures { number result ≡ a }
-{
-    if 0 <= a {
-        Whole::Pos(a as u64)
-    } else {
-        Whole::NegSuc((!a) as u64)
-    }
-}
-
-fn fit(z: Whole) -> Signed64
-    ensures { result ≡ fitted (number z) }
-{
-    match z {
-        Whole::Pos(n) => if n < HALF {
-            Signed64::Value(n as i64)
-        } else {
-            Signed64::Overflow
-        },
-        Whole::NegSuc(n) => if n < HALF {
-            Signed64::Value(!(n as i64))
-        } else {
-            Signed64::Overflow
-        },
-    }
-}
+// ---- what 64 bits hold
 
 // An unsigned number as a signed one.
-pub fn from_u64(n: u64) -> Signed64
+#[tactic(auto, using(crate::proofs::Laws::fitted_is))]
+pub fn from_u64(n: u64) -> Option<i64>
     ensures { result ≡ fitted (pos n) }
 {
-    fit(Whole::Pos(n))
+    i64::try_from(n).ok()
 }
 
-fn absolute(a: i64) -> u64
-    ensures { result ≡ unsigned_abs a }
-{
-    match split(a) {
-        Whole::Pos(n) => n,
-        Whole::NegSuc(n) => n + 1,
-    }
-}
-
-// ---- whole numbers
-
-fn negated(z: Whole) -> Whole
-    requires { unsigned_abs (number z) < 2 ^ 64 }
-    ensures { number result ≡ neg_ℤ (number z) }
-{
-    match z {
-        Whole::Pos(n) => if n == 0 {
-            Whole::Pos(0)
-        } else {
-            Whole::NegSuc(n - 1)
-        },
-        Whole::NegSuc(n) => Whole::Pos(n + 1),
-    }
-}
-
-fn product(x: u64, y: u64) -> Unsigned64
-    ensures { result ≡ unsigned (x * y) }
-{
-    if y == 0 {
-        return Unsigned64::Value(0);
-    }
-    if x <= MAX / y {
-        Unsigned64::Value(x * y)
-    } else {
-        Unsigned64::Overflow
-    }
-}
-
-// z, with its sign turned where b is negative
-fn signed_by(b: i64, z: Whole) -> Whole
-    requires { unsigned_abs (number z) < 2 ^ 64 }
-    ensures { number result ≡ sign_of b (number z) }
-{
-    match split(b) {
-        Whole::Pos(_) => z,
-        Whole::NegSuc(_) => negated(z),
-    }
-}
-
-// ---- sums and differences of bits
-
-// Whether t is on the other side of 2^63 than both m and n.
-fn crosses(m: u64, n: u64, t: u64) -> bool
-    ensures { result ≡ crossed m n t }
-{
-    ((t < HALF) != (m < HALF)) & ((t < HALF) != (n < HALF))
-}
-
-// ---- checked arithmetic
-
-pub fn checked_add(a: i64, b: i64) -> Signed64
+#[tactic(auto, using(crate::proofs::Laws::fitted_is), unfolding(crate::specs::Exact::checked_add))]
+pub fn checked_add(a: i64, b: i64) -> Option<i64>
     ensures { result ≡ checked_add a b }
 {
-    let m = word64::bits(a);
-    let n = word64::bits(b);
-    let t = std::num::wrapping_add_u64(m, n);
-    if crosses(m, n, t) {
-        return Signed64::Overflow;
-    }
-    Signed64::Value(word64::signed(t))
+    a.checked_add(b)
 }
 
-pub fn checked_sub(a: i64, b: i64) -> Signed64
+#[tactic(auto, using(crate::proofs::Laws::fitted_is), unfolding(crate::specs::Exact::checked_sub))]
+pub fn checked_sub(a: i64, b: i64) -> Option<i64>
     ensures { result ≡ checked_sub a b }
 {
-    let m = word64::bits(a);
-    let n = word64::bits(b);
-    let t = std::num::wrapping_sub_u64(m, n);
-    if crosses(t, n, m) {
-        return Signed64::Overflow;
-    }
-    Signed64::Value(word64::signed(t))
+    a.checked_sub(b)
 }
 
-pub fn checked_neg(a: i64) -> Signed64
+#[tactic(auto, using(crate::proofs::Laws::fitted_is), unfolding(crate::specs::Exact::checked_neg))]
+pub fn checked_neg(a: i64) -> Option<i64>
     ensures { result ≡ checked_neg a }
 {
-    checked_sub(0, a)
+    a.checked_neg()
 }
 
-pub fn checked_mul(a: i64, b: i64) -> Signed64
+#[tactic(auto, using(crate::proofs::Laws::fitted_is), unfolding(crate::specs::Exact::checked_mul))]
+pub fn checked_mul(a: i64, b: i64) -> Option<i64>
     ensures { result ≡ checked_mul a b }
 {
-    match product(absolute(a), absolute(b)) {
-        Unsigned64::Value(p) => fit(signed_by(a, signed_by(b, Whole::Pos(p)))),
-        Unsigned64::Overflow => Signed64::Overflow,
-    }
+    a.checked_mul(b)
 }
 
-// ---- quotient and remainder, by the signs of a and b: a = b * quotient + remainder, and 0 <= remainder < |b|
+// ---- quotient and remainder: a = b * quotient + remainder, and 0 <= remainder < |b|
+// Each pair of signs has a function of its own, as request R-7 wants it, though two have the same lines.
 // `a / b` is rounded towards 0, and `a % b` is what that leaves: it is negative only where a is.
 
 // Where 30 and 31 fall: by 0, and -2^63 by -1, whose quotient 2^63 does not fit.
@@ -180,7 +53,7 @@ fn has_no_quotient(a: i64, b: i64) -> bool
 {
     match b {
         0 => true,
-        -1 => a == LEAST,
+        -1 => a == i64::MIN,
         _ => false,
     }
 }
@@ -268,20 +141,25 @@ fn divide(a: i64, b: i64) -> Division
     }
 }
 
-pub fn checked_div_euclid(a: i64, b: i64) -> Signed64
-    ensures { result ≡ checked_div a b }
+// Both, where there are any.
+fn checked_divide(a: i64, b: i64) -> Option<Division>
+    ensures quotient { option_map (λ d. d.quotient) result ≡ checked_div a b }
+    ensures remainder { option_map (λ d. d.remainder) result ≡ checked_rem a b }
 {
     if has_no_quotient(a, b) {
-        return Signed64::Overflow;
+        return None;
     }
-    Signed64::Value(divide(a, b).quotient)
+    Some(divide(a, b))
 }
 
-pub fn checked_rem_euclid(a: i64, b: i64) -> Signed64
+pub fn checked_div_euclid(a: i64, b: i64) -> Option<i64>
+    ensures { result ≡ checked_div a b }
+{
+    Some(checked_divide(a, b)?.quotient)
+}
+
+pub fn checked_rem_euclid(a: i64, b: i64) -> Option<i64>
     ensures { result ≡ checked_rem a b }
 {
-    if has_no_quotient(a, b) {
-        return Signed64::Overflow;
-    }
-    Signed64::Value(divide(a, b).remainder)
+    Some(checked_divide(a, b)?.remainder)
 }

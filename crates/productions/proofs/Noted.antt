@@ -1,6 +1,7 @@
 -- The rows that are noted: one by one, before an earlier place, and with their own tokens.
+use Rattle.std.proofs.Common.{Option, Some, None, unwrap_or}
 use Prim.Native.Nat.{ℕ, ◌+◌, ◌-◌, ◌<◌, ◌≤◌}
-use mathlib.Core.Bool.{Bool, true, false}
+use mathlib.Core.Bool.{Bool, true, false, cond}
 use mathlib.Core.Path.{◌≡◌, refl, sym, ap, ◌∙◌}
 use mathlib.Core.List.{List}
 use native.Mathlib.Omega.{arith}
@@ -14,7 +15,7 @@ use Rattle.semantics.specs.Operations.{Token}
 use Rattle.semantics.specs.Records.{Records, token_at}
 use Rattle.semantics.specs.FromTokens.{Found, found, nothing}
 use Rattle.productions.specs.Before.{before}
-use Rattle.productions.specs.Ending.{Row, blank, ends, last_row, row_at, row_found, rows}
+use Rattle.productions.specs.Ending.{Row, blank, ends, last_row, row_at, row_found, row_numbered, rows}
 use Rattle.productions.specs.Noted.{Fitting, Rows, row_in}
 use Rattle.productions.proofs.Endings.{last_row-ends}
 use Rattle.productions.proofs.Places.{At, row-found}
@@ -72,6 +73,14 @@ row_low ts = go (last_row ts) refl
     go : (g : Found ℕ) → last_row ts ≡ g → row_found g ≤ 29
     go (found k r) e = omega (arith, (last_row-ends ts k r e).row)
     go nothing e = omega arith
+
+-- a row, or none, as it is noted
+pub noted_number : (k : ℕ) (row : Option ℕ) → k ≤ 29 → row ≡ row_numbered k → unwrap_or row 29 ≡ k
+noted_number k row most e = rw e (go (ltb k 29) refl)
+  where
+    go : (b : Bool) → ltb k 29 ≡ b → unwrap_or (cond b (Some k) None) 29 ≡ k
+    go true l = refl
+    go false l = let low = ltb-false k 29 l in omega arith
 
 -- the own tokens of a row that is noted
 module _ (rs : List ℕ) (last end k w : ℕ) (fits : Fitting rs last) (low : end ≤ last) (row : k ≡ row_in rs end) (there : k < 29) (wide : w ≡ length (row_at k).marks) where

@@ -1,4 +1,6 @@
 -- The row that the tokens before a place end with, as the code finds it there: mark by mark (`ends_all` ..), and then as a row (`row-found` ..).
+use Rattle.std.proofs.Common.{Option, Some, None}
+use Rattle.std.specs.Option.{option_eq}
 use Prim.Native.Nat.{ℕ, zero, suc, ◌+◌, ◌-◌, ◌<◌, ◌≤◌, zero-le, suc-le-suc}
 use mathlib.Core.Bool.{Bool, true, false, cond, not, ◌&&◌, ◌||◌}
 use mathlib.Core.Path.{◌≡◌, refl, sym, ap, ap₂, ◌∙◌, subst⁻¹}
@@ -14,8 +16,8 @@ use Rattle.semantics.specs.Operations.{Token, op}
 use Rattle.semantics.specs.FromTokens.{Found, found, nothing}
 use Rattle.semantics.specs.Records.{Records, records_of, token_at}
 use Rattle.semantics.proofs.Tests.{and_true}
-use Rattle.productions.specs.Before.{Numbered, before, tokens_before}
-use Rattle.productions.specs.Ending.{Row, blank, candidate_of, ends, fits, kind_at, last_row, mark_of, row_at, row_found, rows, rows_before}
+use Rattle.productions.specs.Before.{before, tokens_before}
+use Rattle.productions.specs.Ending.{Row, blank, candidate_of, ends, fits, kind_at, kind_there, last_row, mark_of, row_at, row_found, row_numbered, rows, rows_before}
 use Rattle.productions.proofs.Tokens.{before-step, drop-before, get_d_before, get_d_beyond, length_before}
 use Rattle.productions.proofs.Endings.{last_row-ends}
 use Rattle.productions.proofs.Table.{all, all_at, backwards, widths}
@@ -67,28 +69,15 @@ module _ (ms : List ℕ) (r : Records) (end : ℕ) (own : List ℕ) (start i : �
     pub ends_more : b ≡ true → ends ms (before (token_at r) end) ≡ ends (backwards own (i - 1)) (before (token_at r) (start + (i - 1)))
     ends_more e = rw (step, e)
 
--- the candidate, by the tests on the last kind and another one
-pub neither : (a b c d : ℕ) → (a ≡ b → c ≡ d → ⊥) → (eqb a b && eqb c d) ≡ false
-neither a b c d h = go (eqb a b) refl (eqb c d) refl
-  where
-    go : (p : Bool) → eqb a b ≡ p → (q : Bool) → eqb c d ≡ q → (p && q) ≡ false
-    go true u true v = absurd (h (eqb-true a b u) (eqb-true c d v))
-    go true u false v = refl
-    go false u q v = refl
+-- the kind of a token that is there, and of one that is not
+pub kind_known : (kinds numbers places keys : List ℕ) (end k : ℕ) → k < end → kind_there (tokens_before kinds numbers places keys end) k ≡ Some (get_or kinds (end - 1 - k) 0)
+kind_known kinds numbers places keys end k h =
+    let t : ℕ → Token = token_at (records_of kinds numbers places keys) in
+    rw (length_before t end, lt-ltb k end h) (ap (λ (x : Token). Some x.kind) (get_d_before t end k (op 0) h))
 
-module _ (ts : List Token) (last : ℕ) (is : last ≡ kind_at ts 0) where
-  pub candidate_fourth : last ≡ 15 → (fourth k : ℕ) → fourth ≡ kind_at ts 3 → k ≡ rows_before 3 fourth rows → k ≡ candidate_of ts
-  candidate_fourth e fourth k f r = rw (← is, ← f, e) r
-
-  pub candidate-index-div : last ≡ 8 → (second : ℕ) → second ≡ kind_at ts 1 → second ≡ 16 → 22 ≡ candidate_of ts
-  candidate-index-div e second f s = rw (← is, ← f, e, s)
-
-  pub candidate-div : last ≡ 16 → (second : ℕ) → second ≡ kind_at ts 1 → second ≡ 15 → 10 ≡ candidate_of ts
-  candidate-div e second f s = rw (← is, ← f, e, s)
-
-  pub candidate_last : (last ≡ 15 → ⊥) → (last ≡ 8 → kind_at ts 1 ≡ 16 → ⊥) → (last ≡ 16 → kind_at ts 1 ≡ 15 → ⊥) → (k : ℕ) → k ≡ rows_before 0 last rows → k ≡ candidate_of ts
-  candidate_last n m d k r =
-      rw (← is, ne_eqb last 15 n, neither last 8 (kind_at ts 1) 16 m, neither last 16 (kind_at ts 1) 15 d) r
+pub kind_beyond : (kinds numbers places keys : List ℕ) (end k : ℕ) → end ≤ k → kind_there (tokens_before kinds numbers places keys end) k ≡ None
+kind_beyond kinds numbers places keys end k h =
+    rw (length_before (token_at (records_of kinds numbers places keys)) end, le-ltb k end h)
 
 -- a kind of the tokens is one of the records, or 0
 pub known_kind : (kinds numbers places keys : List ℕ) (end k : ℕ) → ((i : ℕ) → get_or kinds i 0 < 36) → kind_at (tokens_before kinds numbers places keys end) k < 36
@@ -99,6 +88,32 @@ known_kind kinds numbers places keys end k h = go (ltb k end) refl
         subst⁻¹ (λ (t : Token). t.kind < 36) (get_d_before (token_at (records_of kinds numbers places keys)) end k (op 0) (ltb-true k end e)) (h (end - 1 - k))
     go false e =
         subst⁻¹ (λ (t : Token). t.kind < 36) (get_d_beyond (token_at (records_of kinds numbers places keys)) end k (op 0) (ltb-false k end e)) (omega arith)
+
+pub there_known : (kinds numbers places keys : List ℕ) (end k x : ℕ) → ((i : ℕ) → get_or kinds i 0 < 36)
+    → kind_there (tokens_before kinds numbers places keys end) k ≡ Some x → x < 36
+there_known kinds numbers places keys end k x h e =
+    go (ltb k (length (tokens_before kinds numbers places keys end))) (known_kind kinds numbers places keys end k h) e
+  where
+    go : (b : Bool) {n : ℕ} → n < 36 → cond b (Some n) None ≡ Some x → x < 36
+    go true {n = n} l q = let is : n ≡ x = cc in omega arith
+    go false l q = let z : ◌≡◌ {A = ℕ} 0 1 = cc in absurd (omega arith)
+
+some_none : {A : Type 0} {x : ℕ} → Some x ≡ None → A
+some_none e = let z : ◌≡◌ {A = ℕ} 0 1 = cc in absurd (omega arith)
+
+-- where a token that tells the row is not there, there is no row
+pub no_token : (ts : List Token) → kind_there ts 0 ≡ None → row_numbered (candidate_of ts) ≡ None
+unfolding rows bytes_value
+no_token [] e = refl
+no_token (t ∷ ts) e = some_none (rw (lt-ltb 0 (length (t ∷ ts)) (omega arith)) at e)
+
+pub no_fourth_token : (ts : List Token) → kind_there ts 0 ≡ Some 15 → kind_there ts 3 ≡ None → row_numbered (candidate_of ts) ≡ None
+unfolding rows bytes_value
+no_fourth_token [] last e = refl
+no_fourth_token (t ∷ []) last e = let is : t.kind ≡ 15 = cc in rw is
+no_fourth_token (t ∷ t₁ ∷ []) last e = let is : t.kind ≡ 15 = cc in rw is
+no_fourth_token (t ∷ t₁ ∷ t₂ ∷ []) last e = let is : t.kind ≡ 15 = cc in rw is
+no_fourth_token (t ∷ t₁ ∷ t₂ ∷ t₃ ∷ ts) last e = some_none (rw (lt-ltb 3 (length (t ∷ t₁ ∷ t₂ ∷ t₃ ∷ ts)) (omega arith)) at e)
 
 -- a row that was looked for by a mark has it
 has_mark : (place m : ℕ) (rs : List Row) (k : ℕ) → k ≡ rows_before place m rs → k < length rs → get_or (get_or rs k blank).marks place 99 ≡ m
@@ -224,35 +239,58 @@ module _ (r : Records) (end : ℕ) where
       → b ≡ ends (14 ∷ 36 ∷ []) (before (token_at r) (end - 1))
   one_equal_yes h e b f = f ∙ sym (two_tokens h ∙ rw e)
 
--- the candidate's number is k: it is no row, its marks do not fit, or they do
-module _ (t : ℕ → Token) (end k : ℕ) (is : k ≡ candidate_of (before t end)) where
-  pub no_row : 29 ≤ k → 29 ≡ row_found (last_row (before t end))
-  unfolding last_row
-  no_row h = rw (← is, le-ltb k 29 h)
+-- an option that is compared with another
+pub same_some : (x : Option ℕ) (k : ℕ) → option_eq eqb x (Some k) ≡ true → x ≡ Some k
+same_some (Some y) k e = ap Some (eqb-true y k e)
+same_some None k e = let z : ◌≡◌ {A = ℕ} 0 1 = cc in absurd (omega arith)
 
-  pub no_fit : k < 29 → false ≡ ends (row_at k).marks (before t end) → 29 ≡ row_found (last_row (before t end))
-  unfolding last_row
-  no_fit h e = rw (← is, lt-ltb k 29 h, ← e)
+pub some_same : (x : Option ℕ) (k : ℕ) → option_eq eqb x (Some k) ≡ false → x ≡ Some k → ⊥
+some_same x k e is =
+    let same : true ≡ false = sym (eq-eqb k k refl) ∙ ap (λ (y : Option ℕ). option_eq eqb y (Some k)) (sym is) ∙ e in
+    let z : ◌≡◌ {A = ℕ} 0 1 = cc in absurd (omega arith)
 
-  pub row_fits : k < 29 → true ≡ ends (row_at k).marks (before t end) → k ≡ row_found (last_row (before t end))
-  unfolding last_row
-  row_fits h e = rw (← is, lt-ltb k 29 h, ← e)
+-- a number of a row, or of none
+pub numbered_row : (k row : ℕ) → row_numbered k ≡ Some row → (row ≡ k) × (row < 29)
+numbered_row k row e = go (ltb k 29) refl e
+  where
+    go : (b : Bool) → ltb k 29 ≡ b → cond b (Some k) None ≡ Some row → (row ≡ k) × (row < 29)
+    go true l q = let is : row ≡ k = cc in (is, rw is (ltb-true k 29 l))
+    go false l q = let z : ◌≡◌ {A = ℕ} 0 1 = cc in absurd (omega arith)
 
-  pub row_single : k < 29 → kind_at (before t end) 0 < 36 → kind_at (before t end) 3 < 36 → (w : ℕ) → w ≡ length (row_at k).marks → w ≡ 1
-      → k ≡ row_found (last_row (before t end))
-  row_single h last fourth w wide one = row_fits h (sym (single_ends (before t end) k is h (sym wide ∙ one) last fourth))
+pub numbered_none : (k : ℕ) → row_numbered k ≡ None → 29 ≤ k
+numbered_none k e = go (ltb k 29) refl e
+  where
+    go : (b : Bool) → ltb k 29 ≡ b → cond b (Some k) None ≡ None → 29 ≤ k
+    go true l q = some_none q
+    go false l q = ltb-false k 29 l
 
-  module _ (h : k < 29) (fourth : kind_at (before t end) 3 < 36) (w : ℕ) (wide : w ≡ length (row_at k).marks) (four : w ≡ 4)
-      (b : Bool) (checked : b ≡ ends (14 ∷ 36 ∷ []) (before t (end - 1))) where
-    four_is : b ≡ ends (row_at k).marks (before t end)
-    four_is =
-        checked ∙ ap (ends (14 ∷ 36 ∷ [])) (sym (drop-before t 1 end)) ∙ sym (four_end (before t end) k is h (sym wide ∙ four) fourth)
+-- the candidate's marks are those of one token, of four, or of others
+module _ (kinds numbers places keys : List ℕ) (end k : ℕ) (known : (i : ℕ) → get_or kinds i 0 < 36)
+    (row : k < 29) (is : k ≡ candidate_of (tokens_before kinds numbers places keys end)) where
+  pub ends-single : (w : ℕ) → w ≡ length (row_at k).marks → w ≡ 1 → ends (row_at k).marks (tokens_before kinds numbers places keys end) ≡ true
+  ends-single w wide one =
+      single_ends (tokens_before kinds numbers places keys end) k is row (sym wide ∙ one) (known_kind kinds numbers places keys end 0 known)
+      (known_kind kinds numbers places keys end 3 known)
 
-    pub four_no : b ≡ false → 29 ≡ row_found (last_row (before t end))
-    four_no e = no_fit h (sym e ∙ four_is)
+  pub ends_four : (w : ℕ) → w ≡ length (row_at k).marks → w ≡ 4
+      → ends (row_at k).marks (tokens_before kinds numbers places keys end) ≡ ends (14 ∷ 36 ∷ []) (tokens_before kinds numbers places keys (end - 1))
+  ends_four w wide four =
+      four_end (tokens_before kinds numbers places keys end) k is row (sym wide ∙ four) (known_kind kinds numbers places keys end 3 known)
+      ∙ ap (ends (14 ∷ 36 ∷ [])) (drop-before (token_at (records_of kinds numbers places keys)) 1 end)
 
-    pub row_four : b ≡ true → k ≡ row_found (last_row (before t end))
-    row_four e = row_fits h (sym e ∙ four_is)
+-- where there is no candidate, no row is found; else it is the candidate, if its marks fit
+pub no_candidate : (ts : List Token) → row_numbered (candidate_of ts) ≡ None → row_numbered (row_found (last_row ts)) ≡ None
+unfolding last_row
+no_candidate ts e = go (ltb (candidate_of ts) 29) refl e
+  where
+    go : (b : Bool) → ltb (candidate_of ts) 29 ≡ b → cond b (Some (candidate_of ts)) None ≡ None → row_numbered (row_found (last_row ts)) ≡ None
+    go true l q = some_none q
+    go false l q = rw l refl
+
+pub candidate_found : (ts : List Token) (k : ℕ) → k < 29 → k ≡ candidate_of ts → (b : Bool) → b ≡ ends (row_at k).marks ts → row_numbered (row_found (last_row ts)) ≡ cond b (Some k) None
+unfolding last_row
+candidate_found ts k row is true e = rw (← is, lt-ltb k 29 row, ← e, lt-ltb k 29 row)
+candidate_found ts k row is false e = rw (← is, lt-ltb k 29 row, ← e)
 
 -- what the code knows of a row that was found
 pub record At (t : ℕ → Token) (end k start : ℕ) : Type 0 where
@@ -280,10 +318,6 @@ row-found t end k w e low wide = go (last_row (before t end)) refl e
           },
         )
     go nothing q f = absurd (omega arith)
-
--- the records before an earlier place
-pub fewer : (kinds numbers : List ℕ) (end n : ℕ) → Numbered kinds numbers end → n ≤ end → Numbered kinds numbers n
-fewer kinds numbers end n p h = record { known = p.known; paired = p.paired; within = omega (arith, p.within) }
 
 pub row-missing : (ts : List Token) (k : ℕ) → k ≡ row_found (last_row ts) → 29 ≤ k → last_row ts ≡ nothing
 row-missing ts k e h = go (last_row ts) refl e

@@ -1,21 +1,25 @@
 -- The code's table is that of the definitions' rows, entry for entry; each is one computed test.
+use Rattle.std.proofs.Common.{Option, Some}
+use Rattle.semantics.specs.Code.{known}
 use Prim.Native.Nat.{ℕ, zero, suc, ◌+◌, ◌-◌, ◌<◌, ◌≤◌}
 use mathlib.Core.Bool.{Bool, true, false, not, ◌&&◌, ◌||◌}
 use mathlib.Core.Path.{◌≡◌, refl, sym, ap, ◌∙◌}
 use mathlib.Core.List.{List, [], ◌∷◌, map, reverse}
 use native.Mathlib.Omega.{arith}
-use borrow.Author.Tests.{eqb-true, leb-true, lt-ltb, ltb-false, ltb-true, ne_eqb}
+use borrow.Author.Tests.{eqb-true, leb-true, lt-ltb, ltb-false, ltb-true}
 use lib.Dec.{eqb, leb, ltb}
-use lib.ListN.{length, get_or, take, drop, get_or-replicate, replicate, get_or-eq_default, get_or-map}
+use lib.ListN.{length, get_or, take, drop, get_or-replicate, replicate, get_or-eq_default, get_or-map, length-map}
 use lib.Seq.{get_or-drop, get_or-take}
 use Rattle.semantics.specs.Operations.{Token}
+use Rattle.semantics.specs.declared.Command.{Command}
 use Rattle.semantics.specs.FromTokens.{same_bytes}
 use Rattle.semantics.proofs.Find.{same_bytes_true}
 use Rattle.semantics.proofs.Tests.{and_true}
 use Rattle.slices.specs.Bytes.{bytes_value}
+use Rattle.token_table.specs.declared.TokenKind.{TokenKind}
+use Rattle.token_table.specs.Kinds.{number}
 use Rattle.token_table.specs.TokenRows.{token_row}
-use Rattle.token_table.specs.declared.TokenRow.{TokenRow}
-use Rattle.productions.specs.Ending.{Production, Row, blank, mark_of, production_of, productions, row_at, rows, rows_before}
+use Rattle.productions.specs.Ending.{Production, Row, blank, command_in, fits, mark_of, production_of, productions, row_at, rows}
 use Rattle.productions.proofs.Shapes.{IndexShape, ValueShape, index_shape, value_shape}
 use Rattle.productions.proofs.Endings.{is_comparison}
 
@@ -42,13 +46,12 @@ widths k h =
 abbrev pub backwards : List ℕ → ℕ → List ℕ
 backwards kinds n = map mark_of (reverse (take n kinds))
 
--- a row of several tokens has the marks of its command's kinds, read backwards; no kind is the mark of a Num of 1
-pub record OwnKinds (k : ℕ) (own : TokenRow) : Type 0 where
-  pub marks : (row_at k).marks ≡ backwards own.kinds own.count
-  pub count : length (row_at k).marks ≡ own.count
-  pub room : own.count ≤ 14
-  pub whole : length own.kinds ≡ 14
-  pub low : (i : ℕ) → get_or own.kinds i 0 < 36
+-- a row of several tokens has the marks of its command's kinds but the last, read backwards; no kind is the mark of a Num of 1
+pub record OwnKinds (k : ℕ) (own : List ℕ) : Type 0 where
+  pub marks : (row_at k).marks ≡ backwards own (length own - 1)
+  pub count : length (row_at k).marks ≡ length own - 1
+  pub some : 1 ≤ length own
+  pub low : (i : ℕ) → get_or own i 0 < 36
 
 low_at : (l : List ℕ) → all (λ k. ltb k 36) l ≡ true → (i : ℕ) → get_or l i 0 < 36
 unfolding all
@@ -59,27 +62,52 @@ low_at (k ∷ l) e (suc i) = low_at l (and_true (ltb k 36) (all (λ k. ltb k 36)
 pub own_kinds : (k : ℕ) → k < 29 → 1 < length (row_at k).marks → OwnKinds k (token_row (row_at k).command)
 unfolding rows all bytes_value
 own_kinds k h wide =
-    let own : TokenRow = token_row (row_at k).command in
+    let own : List ℕ = token_row (row_at k).command in
     let ms : List ℕ = (row_at k).marks in
     let f : Row → Bool = λ r.
-    not (ltb 1 (length r.marks)) || (same_bytes r.marks (backwards (token_row r.command).kinds (token_row r.command).count) && (eqb (length r.marks) (token_row r.command).count
-    && (eqb (length (token_row r.command).kinds) 14 && all (λ k. ltb k 36) (token_row r.command).kinds))) in
+    not (ltb 1 (length r.marks)) || (same_bytes r.marks (backwards (token_row r.command) (length (token_row r.command) - 1)) && (eqb (length r.marks) (length (token_row r.command) - 1)
+    && (leb 1 (length (token_row r.command)) && all (λ k. ltb k 36) (token_row r.command)))) in
     let test = rw (lt-ltb 1 (length ms) wide) at (all_at f rows blank refl k h) in
-    let a = and_true (same_bytes ms (backwards own.kinds own.count)) _ test in
-    let b = and_true (eqb (length ms) own.count) _ a.1 in
-    let c = and_true (eqb (length own.kinds) 14) _ b.1 in
-    let same : length ms ≡ own.count = eqb-true (length ms) own.count b.0 in
+    let a = and_true (same_bytes ms (backwards own (length own - 1))) _ test in
+    let b = and_true (eqb (length ms) (length own - 1)) _ a.1 in
+    let c = and_true (leb 1 (length own)) _ b.1 in
     record {
-      marks = same_bytes_true ms (backwards own.kinds own.count) a.0;
-      count = same;
-      room = omega (arith, (widths k h).1);
-      whole = eqb-true (length own.kinds) 14 c.0;
-      low = low_at own.kinds c.1;
+      marks = same_bytes_true ms (backwards own (length own - 1)) a.0;
+      count = eqb-true (length ms) (length own - 1) b.0;
+      some = leb-true 1 (length own) c.0;
+      low = low_at own c.1;
     }
 
--- the last row, if it is none of the others
-pub beyond : (n k : ℕ) → n ≤ k → (k ≡ n → ⊥) → suc n ≤ k
-beyond n k h e = omega arith
+-- and such a row has a command
+pub own_command : (k : ℕ) → k < 29 → 1 < length (row_at k).marks → command_in (row_at k) ≡ Some (row_at k).command
+unfolding rows all bytes_value
+own_command k h wide =
+    let f : Row → Bool = λ r. not (ltb 1 (length r.marks)) || known r.command in
+    rw (rw (lt-ltb 1 (length (row_at k).marks) wide) at (all_at f rows blank refl k h))
+
+-- as the code has them
+pub record OwnRow (k : ℕ) (own : List TokenKind) : Type 0 where
+  pub marks : (row_at k).marks ≡ backwards (map number own) (length own - 1)
+  pub count : length (row_at k).marks ≡ length own - 1
+  pub some : 1 ≤ length own
+
+pub own_row : (k : ℕ) (told : Option Command) (command : Command) (own : List TokenKind) → told ≡ command_in (row_at k) → told ≡ Some command
+    → map number own ≡ token_row command → k < 29 → 1 < length (row_at k).marks → OwnRow k own
+own_row k told command own c some e h wide =
+    let is : command ≡ (row_at k).command = let both = sym some ∙ c ∙ own_command k h wide in cc in
+    let row : map number own ≡ token_row (row_at k).command = e ∙ ap token_row is in
+    let o = own_kinds k h wide in
+    let long : length (token_row (row_at k).command) ≡ length own = sym (ap length row) ∙ length-map own number in
+    record { marks = rw (row, ← long) o.marks; count = rw (← long) o.count; some = rw (← long) o.some }
+
+own_at : (own : List TokenKind) (i : ℕ) (d : TokenKind) → i < length own → get_or (map number own) i 0 ≡ number (get_or own i d)
+own_at [] i d h = absurd (omega arith)
+own_at (x ∷ own) zero d h = refl
+own_at (x ∷ own) (suc i) d h = own_at own i d (omega arith)
+
+pub own_fits : (own : List TokenKind) (i v kind n : ℕ) (d : TokenKind) (b : Bool) → i < length own → v ≡ number (get_or own i d) → b ≡ fits (mark_of v) kind n
+    → b ≡ fits (mark_of (get_or (map number own) i 0)) kind n
+own_fits own i v kind n d b h e f = f ∙ ap (λ (m : ℕ). fits (mark_of m) kind n) (e ∙ sym (own_at own i d h))
 
 -- a run of equal elements
 run_at : {A : Type 0} (l : List A) (d a : A) (from n k : ℕ) → take n (drop from l) ≡ replicate n a → from ≤ k → k < from + n → get_or l k d ≡ a
@@ -92,6 +120,11 @@ run_at {A = A} l d a from n k e low high =
 pub width_run : (w from n k : ℕ) → take n (drop from (map (λ (r : Row). length r.marks) rows)) ≡ replicate n w → from ≤ k → k < from + n → w ≡ length (row_at k).marks
 width_run w from n k run low high =
     sym (sym (get_or-map (λ (r : Row). length r.marks) rows k blank) ∙ run_at (map (λ (r : Row). length r.marks) rows) 0 w from n k run low high)
+
+-- the last rows have one token
+pub single_run : (k : ℕ) → 23 ≤ k → k < 29 → length (row_at k).marks ≡ 1
+unfolding rows bytes_value
+single_run k low high = sym (width_run 1 23 6 k refl low high)
 
 -- what a row's production is, whatever the tokens carry
 module _ {A : Type 0} (f : Production → A) (ts : List Token) (a : A) (from n k : ℕ) (run : take n (drop from (map f (productions ts))) ≡ replicate n a)
@@ -152,13 +185,3 @@ module _ (ts : List Token) (k : ℕ) where
 
   pub comparisons : 24 ≤ k → k < 29 → is_comparison (production_of ts k) ≡ true
   comparisons l h = rows_are is_comparison ts true 24 5 k refl (omega arith) (omega arith)
-
--- a kind looked for by a match: in an arm it is known, behind the last arm it is none of the others
-pub found_at : (place m : ℕ) {k : ℕ} → k ≡ m → rows_before place m rows ≡ rows_before place k rows
-found_at place m e = ap (λ (n : ℕ). rows_before place n rows) (sym e)
-
-pub not_it : (m : ℕ) {k : ℕ} → (k ≡ m → ⊥) → eqb m k ≡ false
-not_it m {k = k} n = ne_eqb m k (λ e. n (sym e))
-
-pub no_kind : (m : ℕ) {k : ℕ} → k < 36 → 36 ≤ m → k ≡ m → ⊥
-no_kind m h l e = omega arith

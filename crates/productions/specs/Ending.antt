@@ -1,7 +1,7 @@
 -- What tokens can end with: the own tokens of a value or index expression, what stands between two index operands, or a comparison. Each has a
 -- row: its command, and the marks of its own tokens, the last one first. The rows are made of the commands' own tokens.
-use Rattle.std.specs.Prelude.{ℕ, suc, Bool, true, false, ◌&&◌, cond, List, [], ◌∷◌, ◌++◌, map, reverse, length, get_or, drop, eqb, ltb}
-use Rattle.semantics.specs.Code.{command_row}
+use Rattle.std.specs.Prelude.{ℕ, suc, Option, Some, None, Bool, true, false, ◌&&◌, cond, List, [], ◌∷◌, ◌++◌, map, reverse, length, get_or, drop, eqb, ltb}
+use Rattle.semantics.specs.Code.{command_row, known}
 use Rattle.semantics.specs.Operations.{Token, op, idx_row, cmp_row, amount_lists, bin_ops, cmp_ops, idx_ops, un_ops}
 use Rattle.semantics.specs.declared.Command.{Command}
 use Rattle.semantics.specs.declared.IdxOp.{IdxOp}
@@ -92,6 +92,9 @@ index_div_row = 22
 abbrev pub row_at : ℕ → Row
 row_at k = get_or rows k blank
 
+abbrev pub command_in : Row → Option Command
+command_in r = cond (known r.command) (Some r.command) None
+
 -- the mark of a kind in a row of several tokens: a Num there is one of 1
 abbrev pub mark_of : ℕ → ℕ
 mark_of kind = cond (eqb kind 1) num_one kind
@@ -108,6 +111,10 @@ ends (m ∷ ms) (t ∷ ts) = fits m t.kind t.number && ends ms ts
 
 abbrev pub kind_at : List Token → ℕ → ℕ
 kind_at ts i = (get_or ts i (op 0)).kind
+
+-- the same, if there are so many tokens
+abbrev pub kind_there : List Token → ℕ → Option ℕ
+kind_there ts i = cond (ltb i (length ts)) (Some (kind_at ts i)) None
 
 -- how many rows stand before the first with this mark at this place
 abbrev pub rows_before : ℕ → ℕ → List Row → ℕ
@@ -129,6 +136,10 @@ unfoldable pub last_row : List Token → Found ℕ
 last_row ts =
     let k = candidate_of ts in
     cond (ltb k row_count && ends (row_at k).marks ts) (found k (drop (length (row_at k).marks) ts)) nothing
+
+-- the row of a number
+abbrev pub row_numbered : ℕ → Option ℕ
+row_numbered k = cond (ltb k row_count) (Some k) None
 
 -- its number, or the number of rows
 abbrev pub row_found : Found ℕ → ℕ

@@ -6,24 +6,25 @@ ghost use Rattle.semantics.specs.Code.{max_tokens};
 ghost use Rattle.semantics.specs.Records.{records_of};
 ghost use Rattle.productions.specs.Before.{Numbered, tokens_before};
 ghost use Rattle.productions.specs.Noted.{Rows, row_in};
-ghost use Rattle.productions.specs.Ending.{candidate_of, ends, equal_kind, fits, kind_at, last_row, mark_of, num_one, row_at, row_count, row_found, rows, rows_before, value_count};
+ghost use Rattle.productions.specs.Ending.{candidate_of, command_in, ends, equal_kind, fits, kind_there, last_row, mark_of, num_one, row_at, row_count, row_found, row_numbered, rows, rows_before, value_count};
 
 use semantics::{AmountList, BinOp, CmpOp, Command, IdxOp, MAX_TOKENS, UnOp};
-use token_table::token_row;
+use token_table::{TokenKind, token_row};
 
-// Kinds of tokens.
-const NUM: u8 = 1;
+// Kinds of tokens, as records hold them.
+const NUM: u8 = TokenKind::Num as u8;
 
-const LE64_TO_SCRIPT_NUM: u8 = 8;
+const LE64_TO_SCRIPT_NUM: u8 = TokenKind::Le64ToScriptNum as u8;
 
-const EQUAL: u8 = 14;
+const EQUAL: u8 = TokenKind::Equal as u8;
 
-const VERIFY: u8 = 15;
+const VERIFY: u8 = TokenKind::Verify as u8;
 
-const NIP: u8 = 16;
+const NIP: u8 = TokenKind::Nip as u8;
 
 // The rows stand in runs: a constant, lookups, operations on one value, on two, oracle terminals; index terminals, index operations; what stands between
 // the operands of index mul and div; comparisons. A run is named by its first row, and some rows have names of their own; the number of rows is no row's.
+// A row is a number, since one is noted for each token, in a byte, and the readers go by runs.
 pub const LOOKUPS: usize = 1;
 
 pub const INPUT: usize = 1;
@@ -58,19 +59,13 @@ pub const COMPARISONS: usize = 24;
 
 pub const ROWS: usize = 29;
 
-// A row that is noted.
-fn u8_to_usize(x: u8) -> usize
-    ensures { result ≡ x }
-{
-    x as usize
-}
-
-// A row's command; `Command::Unknown` for what stands between two index operands.
-pub fn command(row: usize) -> Command
+// A row's command; what stands between two index operands is none's.
+#[tactic(auto, unfolding(crate::specs::Ending::rows, slices::specs::Bytes::bytes_value))]
+pub fn command(row: usize) -> Option<Command>
     requires { row < row_count }
-    ensures { result ≡ (row_at row).command }
+    ensures { result ≡ command_in (row_at row) }
 {
-    match row {
+    Some(match row {
         0 => Command::Const,
         1 => Command::Lookup(AmountList::Input),
         2 => Command::Lookup(AmountList::Output),
@@ -94,16 +89,17 @@ pub fn command(row: usize) -> Command
         20 => Command::Index(IdxOp::Sub),
         21 => Command::Index(IdxOp::Mul),
         22 => Command::Index(IdxOp::Div),
-        23 => Command::Unknown,
+        23 => return None,
         24 => Command::Compare(CmpOp::Eq),
         25 => Command::Compare(CmpOp::Lt),
         26 => Command::Compare(CmpOp::Leq),
         27 => Command::Compare(CmpOp::Gt),
         _ => Command::Compare(CmpOp::Geq),
-    }
+    })
 }
 
 // The number of a row's own tokens, of the rows of values.
+#[tactic(auto, unfolding(crate::specs::Ending::rows, slices::specs::Bytes::bytes_value))]
 fn value_width(row: usize) -> usize
     requires { row < value_count }
     ensures { result ≡ length (row_at row).marks }
@@ -135,7 +131,9 @@ fn value_width(row: usize) -> usize
     13
 }
 
-// The number of a row's own tokens. It goes by tests, so that the readers hold nothing of a table while they call themselves.
+// The number of a row's own tokens. It goes by tests, so that the readers hold nothing of a table while they call themselves; a match by the runs of rows takes Decode a third more
+// instructions where a condition is all And.
+#[tactic(auto, unfolding(crate::specs::Ending::rows, slices::specs::Bytes::bytes_value))]
 pub fn width(row: usize) -> usize
     requires { row < row_count }
     ensures { result ≡ length (row_at row).marks }
@@ -155,85 +153,84 @@ pub fn width(row: usize) -> usize
     1
 }
 
-// The first row whose last token has this kind, or the number of rows.
-fn by_last(kind: u8) -> usize
+// The first row whose last token has this kind.
+#[tactic(auto, unfolding(crate::specs::Ending::rows, slices::specs::Bytes::bytes_value))]
+fn by_last(kind: u8) -> Option<usize>
     requires { kind < 36 }
-    ensures { result ≡ rows_before 0 kind rows }
+    ensures { result ≡ row_numbered (rows_before 0 kind rows) }
 {
-    match kind {
-        1 => 17,
-        2 => 0,
-        4 => 18,
-        5 => 19,
-        6 => 20,
-        7 => 23,
-        8 => 21,
-        14 => 24,
-        15 => 1,
-        16 => 3,
-        17 => 11,
-        18 => 12,
-        19 => 13,
-        20 => 14,
-        21 => 5,
-        27 => 15,
-        28 => 28,
-        29 => 27,
-        30 => 26,
-        31 => 25,
-        35 => 16,
-        _ => ROWS,
+    match TokenKind::try_from(kind).ok()? {
+        TokenKind::Num => Some(17),
+        TokenKind::Bytes8 => Some(0),
+        TokenKind::CurrInp => Some(18),
+        TokenKind::Add => Some(19),
+        TokenKind::Sub => Some(20),
+        TokenKind::ScriptNumToLe64 => Some(23),
+        TokenKind::Le64ToScriptNum => Some(21),
+        TokenKind::Equal => Some(24),
+        TokenKind::Verify => Some(1),
+        TokenKind::Nip => Some(3),
+        TokenKind::Drop => Some(11),
+        TokenKind::And => Some(12),
+        TokenKind::Or => Some(13),
+        TokenKind::Xor => Some(14),
+        TokenKind::Invert => Some(5),
+        TokenKind::FromAltStack => Some(15),
+        TokenKind::Geq64 => Some(28),
+        TokenKind::Ge64 => Some(27),
+        TokenKind::Leq64 => Some(26),
+        TokenKind::Le64 => Some(25),
+        TokenKind::Swap => Some(16),
+        _ => None,
     }
 }
 
-// The first row whose fourth last token has this kind, or the number of rows.
-fn by_fourth(kind: u8) -> usize
+// The same of the fourth last token.
+#[tactic(auto, unfolding(crate::specs::Ending::rows, slices::specs::Bytes::bytes_value))]
+fn by_fourth(kind: u8) -> Option<usize>
     requires { kind < 36 }
-    ensures { result ≡ rows_before 3 kind rows }
+    ensures { result ≡ row_numbered (rows_before 3 kind rows) }
 {
-    match kind {
-        9 => 9,
-        11 => 7,
-        12 => 8,
-        13 => 6,
-        14 => 3,
-        17 => 4,
-        22 => 1,
-        23 => 2,
-        33 => 15,
-        34 => 16,
-        _ => ROWS,
+    match TokenKind::try_from(kind).ok()? {
+        TokenKind::Mul64 => Some(9),
+        TokenKind::Add64 => Some(7),
+        TokenKind::Sub64 => Some(8),
+        TokenKind::Neg64 => Some(6),
+        TokenKind::Equal => Some(3),
+        TokenKind::Drop => Some(4),
+        TokenKind::InpValue => Some(1),
+        TokenKind::OutValue => Some(2),
+        TokenKind::Sha256 => Some(15),
+        TokenKind::CheckSigFromStackVerify => Some(16),
+        _ => None,
     }
 }
 
-// The kind of the token before `end` that has k tokens behind it there; 0 where there is none.
-pub fn kind_before(kinds: &[u8], end: usize, k: usize) -> u8
+// The kind of the token before `end` that has k tokens behind it there.
+#[tactic(auto, using(crate::proofs::Places::kind_known, crate::proofs::Places::kind_beyond))]
+pub fn kind_before(kinds: &[u8], end: usize, k: usize) -> Option<u8>
     requires { end ≤ length kinds.now }
-    ensures { (numbers places keys : List ℕ) → result ≡ kind_at (tokens_before kinds.now numbers places keys end) k }
+    ensures { (numbers places keys : List ℕ) → result ≡ kind_there (tokens_before kinds.now numbers places keys end) k }
 {
-    if k < end { kinds[end - 1 - k] } else { 0 }
+    if k < end {
+        Some(kinds[end - 1 - k])
+    } else {
+        None
+    }
 }
 
-// The only row that the tokens before `end` can end with, or the number of rows.
-fn candidate(kinds: &[u8], end: usize) -> usize
+// The only row that the tokens before `end` can end with.
+fn candidate(kinds: &[u8], end: usize) -> Option<usize>
     requires { ((i : ℕ) → get_or kinds.now i 0 < 36) × (end ≤ length kinds.now) }
-    ensures { (numbers places keys : List ℕ) → result ≡ candidate_of (tokens_before kinds.now numbers places keys end) }
+    ensures { (numbers places keys : List ℕ) → result ≡ row_numbered (candidate_of (tokens_before kinds.now numbers places keys end)) }
 {
-    let last = kind_before(kinds, end, 0);
-    if last == VERIFY {
-        return by_fourth(kind_before(kinds, end, 3));
+    let last = kind_before(kinds, end, 0)?;
+    match last {
+        VERIFY => by_fourth(kind_before(kinds, end, 3)?),
+        LE64_TO_SCRIPT_NUM if kind_before(kinds, end, 1) == Some(NIP) => Some(INDEX_DIV),
+        NIP if kind_before(kinds, end, 1) == Some(VERIFY) => Some(DIV),
+        _ => by_last(last),
     }
-    if last == LE64_TO_SCRIPT_NUM {
-        if kind_before(kinds, end, 1) == NIP {
-            return INDEX_DIV;
-        }
-    }
-    if last == NIP {
-        if kind_before(kinds, end, 1) == VERIFY {
-            return DIV;
-        }
-    }
-    by_last(last)
 }
 
 // Whether a token is one of a row of several: of the row's kind there, and a Num is one of 1.
@@ -241,13 +238,7 @@ fn fits(own: u8, kind: u8, number: u64) -> bool
     requires { own < 36 }
     ensures { result ≡ fits (mark_of own) kind number }
 {
-    if own == NUM {
-        if kind == NUM {
-            return number == 1;
-        }
-        return false;
-    }
-    kind == own
+    kind == own && (own != NUM || number == 1)
 }
 
 // Whether the tokens before `end` end with those of a row of several, the last one looked at first.
@@ -257,16 +248,14 @@ fn ends(kinds: &[u8], numbers: &[u64], end: usize, row: usize) -> bool
     ensures { (places keys : List ℕ) →
         result ≡ ends (row_at row).marks (tokens_before kinds.now numbers.now places keys end) }
 {
-    let tokens = token_row(command(row));
-    let own = tokens.kinds;
-    let mut i = tokens.count;
-    if end < i {
+    let own = token_row(command(row).unwrap());
+    let count = own.len() - 1;
+    if end < count {
         return false;
     }
-    let start = end - i;
-    while 0 < i {
-        i -= 1;
-        if !fits(own[i], kinds[start + i], numbers[start + i]) {
+    let start = end - count;
+    for i in (0..count).rev() {
+        if !fits(own[i].number(), kinds[start + i], numbers[start + i]) {
             return false;
         }
     }
@@ -280,13 +269,11 @@ fn ends_with(kinds: &[u8], numbers: &[u64], end: usize, row: usize) -> bool
     ensures { (places keys : List ℕ) →
         result ≡ ends (row_at row).marks (tokens_before kinds.now numbers.now places keys end) }
 {
-    if row == ORACLES {
-        return ends(kinds, numbers, end, ORACLES);
+    match row {
+        ORACLES => ends(kinds, numbers, end, ORACLES),
+        PRICE_ORACLE_1W => ends(kinds, numbers, end, PRICE_ORACLE_1W),
+        _ => ends(kinds, numbers, end, row),
     }
-    if row == PRICE_ORACLE_1W {
-        return ends(kinds, numbers, end, PRICE_ORACLE_1W);
-    }
-    ends(kinds, numbers, end, row)
 }
 
 // Whether a Num of 1 and Equal stand before the last one of the tokens before `end`.
@@ -298,60 +285,60 @@ fn ends_with_one_equal(kinds: &[u8], numbers: &[u64], end: usize) -> bool
     if end < 3 {
         return false;
     }
-    if kinds[end - 2] != EQUAL {
-        return false;
-    }
-    fits(NUM, kinds[end - 3], numbers[end - 3])
+    kinds[end - 2] == EQUAL && fits(NUM, kinds[end - 3], numbers[end - 3])
 }
 
-// The row that the tokens before `end` end with, or the number of rows. The kind of the last one tells a row of one token; rows of four tokens differ in the
-// first of them alone.
-fn last_row(kinds: &[u8], numbers: &[u64], end: usize) -> usize
+// Whether the tokens before `end` end with the only row that they can end with. The kind of the last one tells a row of one token; rows of four tokens differ in
+// the first of them alone.
+fn ends_with_candidate(kinds: &[u8], numbers: &[u64], end: usize, row: usize) -> bool
+    requires numbered { Numbered kinds.now numbers.now end }
+    requires candidate { (row < row_count)
+        × ((places keys : List ℕ) → row ≡ candidate_of (tokens_before kinds.now numbers.now places keys end)) }
+    ensures { (places keys : List ℕ) →
+        result ≡ ends (row_at row).marks (tokens_before kinds.now numbers.now places keys end) }
+{
+    match width(row) {
+        1 => true,
+        4 => ends_with_one_equal(kinds, numbers, end),
+        _ => ends_with(kinds, numbers, end, row),
+    }
+}
+
+// The row that the tokens before `end` end with.
+fn last_row(kinds: &[u8], numbers: &[u64], end: usize) -> Option<usize>
     requires { Numbered kinds.now numbers.now end }
     ensures { (places keys : List ℕ) →
-        result ≡ row_found (last_row (tokens_before kinds.now numbers.now places keys end)) }
+        result ≡ row_numbered (row_found (last_row (tokens_before kinds.now numbers.now places keys end))) }
 {
-    let row = candidate(kinds, end);
-    if ROWS <= row {
-        return ROWS;
+    let row = candidate(kinds, end)?;
+    if ends_with_candidate(kinds, numbers, end, row) {
+        Some(row)
+    } else {
+        None
     }
-    let n = width(row);
-    if n == 1 {
-        return row;
-    }
-    if n == 4 {
-        if ends_with_one_equal(kinds, numbers, end) {
-            return row;
-        }
-        return ROWS;
-    }
-    if ends_with(kinds, numbers, end, row) {
-        return row;
-    }
-    ROWS
 }
 
-// Notes the row that the tokens before each place end with, so that it is found once.
+// Notes the row that the tokens before each place end with, or the number of rows, so that it is found once. A row is a byte there.
 pub fn find_rows(kinds: &[u8], numbers: &[u64], rows: &mut [u8])
     requires numbered { Numbered kinds.now numbers.now (length kinds.now) }
     requires kinds_in_bounds { length kinds.now ≤ length rows.old }
     ensures { (places keys : List ℕ) →
         Rows (records_of kinds.now numbers.now places keys) rows.new (length kinds.now) }
 {
-    let mut i = 0;
-    while i < kinds.len() {
-        rows[i] = last_row(kinds, numbers, i + 1) as u8;
-        i += 1;
+    for i in 0..kinds.len() {
+        rows[i] = last_row(kinds, numbers, i + 1).unwrap_or(ROWS) as u8;
     }
 }
 
-// The row that is noted for the tokens before `end`, or the number of rows.
-pub fn row_before(rows: &[u8; MAX_TOKENS], end: usize) -> usize
+// The row that is noted for the tokens before `end`.
+#[tactic(auto, unfolding(crate::specs::Noted::row_in))]
+pub fn row_before(rows: &[u8; MAX_TOKENS], end: usize) -> Option<usize>
     requires { end ≤ max_tokens }
-    ensures { result ≡ row_in rows.now end }
+    ensures { result ≡ row_numbered (row_in rows.now end) }
 {
     if end == 0 {
-        return ROWS;
+        return None;
     }
-    u8_to_usize(rows[end - 1])
+    let row = usize::from(rows[end - 1]);
+    if row < ROWS { Some(row) } else { None }
 }

@@ -31,6 +31,12 @@ abbrev pub values : ℕ → List Token → Reading
 values zero ts = stop ts
 values (suc n) ts = go_on (expr_from_tokens ts) (values n)
 
+pub index_one : (ts : List Token) → indexes 1 ts ≡ reading_of (idx_from_tokens ts)
+index_one ts = sym (reading_on (idx_from_tokens ts))
+
+pub value_one : (ts : List Token) → values 1 ts ≡ reading_of (expr_from_tokens ts)
+value_one ts = sym (reading_on (expr_from_tokens ts))
+
 -- a row that is none of the reader's
 module _ (seen : List Token → Found ℕ → Reading) (ts : List Token) (k : ℕ)
     (found-by : (r : List Token) → seen ts (found k r) ≡ Reading.Nothing) (none-by : seen ts nothing ≡ Reading.Nothing) where

@@ -12,11 +12,12 @@ ghost use Rattle.readers.specs.Readings.{Answers, reading_of};
 
 use productions::{
     BETWEEN, BINARIES, BIT_OPERATIONS, COMPARISONS, INDEX_MUL, INDEX_OPERATIONS, INDEXES, LOOKUPS,
-    ORACLES, ROWS, UNARIES, row_before, width,
+    ORACLES, UNARIES, row_before, width,
 };
 use semantics::MAX_TOKENS;
 
-// Where what was read begins. A reader's answer lies in its caller's frame: 32 bits keep that small.
+// Where what was read begins. A reader's answer lies in its caller's frame: 32 bits keep that small. The specification names the form: an enum for the reading, taken
+// apart by `let else`.
 #[derive(Clone, Copy)]
 pub enum Reading {
     Read(u32),
@@ -31,30 +32,26 @@ fn read_index(rows: &[u8; MAX_TOKENS], last: usize) -> Reading
     let mut end = last;
     let mut count: usize = 1;
     while 0 < count {
-        let row = row_before(rows, end);
-        if row < INDEXES {
-            return Reading::Nothing;
-        }
-        if BETWEEN <= row {
-            return Reading::Nothing;
-        }
-        end -= width(row);
-        if row < INDEX_OPERATIONS {
-            count -= 1;
-            continue;
-        }
-        if row < INDEX_MUL {
-            count += 1;
-            continue;
-        }
-        let Reading::Read(place) = read_index(rows, end) else {
+        let Some(row) = row_before(rows, end) else {
             return Reading::Nothing;
         };
-        let middle = place as usize;
-        if row_before(rows, middle) != BETWEEN {
-            return Reading::Nothing;
+        end -= width(row);
+        match row {
+            ..INDEXES => return Reading::Nothing,
+            ..INDEX_OPERATIONS => count -= 1,
+            ..INDEX_MUL => count += 1,
+            ..BETWEEN => {
+                let Reading::Read(place) = read_index(rows, end) else {
+                    return Reading::Nothing;
+                };
+                let middle = place as usize;
+                if row_before(rows, middle) != Some(BETWEEN) {
+                    return Reading::Nothing;
+                }
+                end = middle - 1;
+            }
+            _ => return Reading::Nothing,
         }
-        end = middle - 1;
     }
     Reading::Read(end as u32)
 }
@@ -67,38 +64,30 @@ fn read_value(rows: &[u8; MAX_TOKENS], last: usize) -> Reading
     let mut end = last;
     let mut count: usize = 1;
     while 0 < count {
-        let row = row_before(rows, end);
-        if INDEXES <= row {
+        let Some(row) = row_before(rows, end) else {
             return Reading::Nothing;
-        }
+        };
         end -= width(row);
-        if row < LOOKUPS {
-            count -= 1;
-            continue;
+        match row {
+            ..LOOKUPS => count -= 1,
+            ..UNARIES => {
+                let Reading::Read(start) = read_index(rows, end) else {
+                    return Reading::Nothing;
+                };
+                end = start as usize;
+                count -= 1;
+            }
+            ..BINARIES => {}
+            ..BIT_OPERATIONS => {
+                let Reading::Read(middle) = read_value(rows, end) else {
+                    return Reading::Nothing;
+                };
+                end = middle as usize;
+            }
+            ..ORACLES => count += 1,
+            ..INDEXES => count -= 1,
+            _ => return Reading::Nothing,
         }
-        if row < UNARIES {
-            let Reading::Read(start) = read_index(rows, end) else {
-                return Reading::Nothing;
-            };
-            end = start as usize;
-            count -= 1;
-            continue;
-        }
-        if row < BINARIES {
-            continue;
-        }
-        if row < BIT_OPERATIONS {
-            let Reading::Read(middle) = read_value(rows, end) else {
-                return Reading::Nothing;
-            };
-            end = middle as usize;
-            continue;
-        }
-        if row < ORACLES {
-            count += 1;
-            continue;
-        }
-        count -= 1;
     }
     Reading::Read(end as u32)
 }
@@ -108,11 +97,10 @@ pub fn read_condition(rows: &[u8; MAX_TOKENS], size: usize) -> Reading
     requires { Fitting rows.now size }
     ensures { (r : Records) → Rows r rows.now size → result ≡ reading_of (from_tokens (before (token_at r) size)) }
 {
-    let row = row_before(rows, size);
-    if row < COMPARISONS {
+    let Some(row) = row_before(rows, size) else {
         return Reading::Nothing;
-    }
-    if ROWS <= row {
+    };
+    if row < COMPARISONS {
         return Reading::Nothing;
     }
     let start = size - width(row);

@@ -26,13 +26,10 @@ pub fn load(
         × (numbers.new ≡ take n (numbers_of records.now) ++ drop n numbers.old)
         × (places.new ≡ take n (places_of records.now) ++ drop n places.old) }
 {
-    let mut i = 0;
-    while i < n {
-        let r = records[i];
-        kinds[i] = r.kind;
-        numbers[i] = r.number;
-        places[i] = r.place;
-        i += 1;
+    for (i, record) in records[..n].iter().enumerate() {
+        kinds[i] = record.kind;
+        numbers[i] = record.number;
+        places[i] = record.place;
     }
 }
 
@@ -41,13 +38,10 @@ pub fn store(records: &mut [TokenRecord], n: usize, kinds: &[u8], numbers: &[u64
     requires { (n ≤ length records.old) × (n ≤ length kinds.now) × (n ≤ length numbers.now) × (n ≤ length places.now) }
     ensures { records.new ≡ take n (records_from kinds.now numbers.now places.now) ++ drop n records.old }
 {
-    let mut k = 0;
-    while k < n {
+    for (k, record) in records[..n].iter_mut().enumerate() {
         // field by field, so that the bytes between the fields are kept
-        let r = &mut records[k];
-        r.kind = kinds[k];
-        r.number = numbers[k];
-        r.place = places[k];
-        k += 1;
+        record.kind = kinds[k];
+        record.number = numbers[k];
+        record.place = places[k];
     }
 }

@@ -24,6 +24,7 @@ fn with_operands(number: u32, x: i64, y: i64) -> Numbered
     with_data(number, word64::bits(x), word64::bits(y))
 }
 
+// No `From`: both types are those of semantics, which definitions share and which has no functions.
 pub fn number_of(r: Refusal) -> Numbered
     ensures { result ≡ numbered r }
 {

@@ -2,7 +2,7 @@
 use Prim.Native.Nat.{ℕ, ◌+◌, ◌-◌, ◌≤◌, ◌<◌}
 use mathlib.Core.Bool.{Bool, true, false, cond}
 use mathlib.Core.Path.{◌≡◌, refl, ap, ◌∙◌}
-use mathlib.Core.List.{List, [], ◌∷◌, ◌++◌, append-nil}
+use mathlib.Core.List.{List, [], ◌∷◌, ◌++◌}
 use native.Mathlib.Omega.{arith}
 use borrow.Rule.Slice.PartMut.{mid_of, put_mid}
 use lib.ListN.{length, get_or, length-append}
@@ -36,9 +36,6 @@ command-bytes c n false = script-append ((command_row c).tokens n) [] refl
 module _ (own : List ℕ) (marked : Bool) where
   pub with_converted : marked ≡ true → own ++ converted_bytes marked ≡ own ++ 0xe0 ∷ []
   with_converted e = rw e
-
-  pub without_converted : marked ≡ false → own ++ converted_bytes marked ≡ own
-  without_converted e = rw (e, append-nil own)
 
   pub one_converted : marked ≡ true → length (converted_bytes marked) ≡ 1
   one_converted e = rw e

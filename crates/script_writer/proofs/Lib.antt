@@ -2,3 +2,4 @@
 pub mod Pieces
 pub mod Commands
 pub mod Answers
+pub mod Own

@@ -1,4 +1,5 @@
 -- "Proved examples": document 01's thirteen, in its order; what the definitions give beside what the document says, and one computed proof.
+use Rattle.std.proofs.Common.{Bool, Result, Ok, Err}
 use Prim.Native.Nat.{ℕ, ◌-◌, ◌^◌}
 use mathlib.Core.Bool.{cond}
 use mathlib.Core.Path.{◌≡◌, refl}
@@ -11,7 +12,7 @@ use Rattle.slices.specs.Bytes.{bytes_value, little_endian}
 use Rattle.semantics.specs.Check.{Checked, checked, condition, judged}
 use Rattle.semantics.specs.Code.{code, command_of, expr_code, idx_code}
 use Rattle.semantics.specs.Decode.{Reading, decode}
-use Rattle.semantics.specs.Evaluate.{Verdict, evaluated, evaluated_tree, initial}
+use Rattle.semantics.specs.Evaluate.{evaluated, evaluated_tree, initial}
 use Rattle.semantics.specs.Evaluation.{Amounts, Env, Outcome, amount, State, err, eval, eval_arith, index, ok, oracle, popping}
 use Rattle.semantics.specs.FromTokens.{comparison, expr_from_tokens, expr_within, from_tokens, head, head_form, idx_from_tokens, idx_head, idx_head_form, idx_within}
 use Rattle.semantics.specs.Oracle.{oracle_rule, oracles, terminals}
@@ -57,13 +58,13 @@ abbrev read : List Token → List ℤ
 read ts = shown_reading (decode ts)
 
 -- of condition code: the answers of Evaluate, 1 for true, and of Check
-abbrev shown_verdict : Verdict → List ℤ
-shown_verdict (Verdict.Is v) = pos (cond v 1 0) ∷ []
-shown_verdict (Verdict.Refused r) = refused r
+abbrev shown_verdict : Result Bool Refusal → List ℤ
+shown_verdict (Ok v) = pos (cond v 1 0) ∷ []
+shown_verdict (Err r) = refused r
 
-abbrev shown_check : Checked → List ℤ
-shown_check (Checked.Refused r) = refused r
-shown_check (Checked.Passed tokens oracles) = pos tokens ∷ pos oracles ∷ []
+abbrev shown_check : Result Checked Refusal → List ℤ
+shown_check (Err r) = refused r
+shown_check (Ok a) = pos a.tokens ∷ pos a.oracles ∷ []
 
 abbrev eq : Expr → Expr → List ℕ
 eq x y = code (Arith.Compare CmpOp.Eq x y)

@@ -1,5 +1,6 @@
 -- R-5, of two calls: conditions with one form are written alike byte for byte, into the same buffers (`one_form`) and, so far as is reported, into any (`one_file`);
 -- and Decode gives one answer for all records of one token list, however their keys lie (`same_tokens`).
+use Rattle.std.proofs.Common.{Ok}
 use Prim.Native.Nat.{ℕ, zero, suc, ◌+◌, ◌*◌, ◌≤◌, ◌<◌, ◌^◌}
 use mathlib.Core.Bool.{Bool, true, false, ◌&&◌, ◌||◌, cond, not}
 use mathlib.Core.Option.{some}
@@ -20,7 +21,7 @@ use Rattle.semantics.specs.Records.{Records, key_of, sound_at, token_at, tokens,
 use Rattle.semantics.specs.Refusals.{Refusal}
 use Rattle.semantics.specs.Token.{Token, form, op}
 use Rattle.semantics.specs.Trees.{Arith}
-use Rattle.semantics.specs.Write.{Writing, Written, joined, keys_of, leaves, place_in, writing, writing_form, written, wrote}
+use Rattle.semantics.specs.Write.{Writing, joined, keys_of, leaves, place_in, writing, writing_form, written, wrote}
 use Rattle.semantics.proofs.Forms.{form_sound}
 use Rattle.semantics.proofs.Passing.{passing}
 use Rattle.semantics.proofs.Placing.{form-wide, length-joined}
@@ -43,7 +44,7 @@ abbrev pub file_of : List Token → Records
 file_of ts = record { kinds = map (λ t. t.kind) ts; numbers = map (λ t. t.number) ts; places = map (place_in (keys_of ts)) ts; keys = joined (keys_of ts) }
 
 module _ (b : List ℕ) (bytes : Bytes b) (a : Arith) (e : condition b ≡ Condition.passed a) (old : Records) (n k : ℕ)
-    (told : (wrote b old).answer ≡ Written.Records n k) where
+    (told : (wrote b old).answer ≡ Ok (record { records = n; key_bytes = k })) where
   abbrev ts : List Token
   ts = form a
 
@@ -63,7 +64,7 @@ module _ (b : List ℕ) (bytes : Bytes b) (a : Arith) (e : condition b ≡ Condi
       ∙ rw (front (λ t. t.kind) old.kinds, front (λ t. t.number) old.numbers, front (place_in (keys_of ts)) old.places, key-bytes old.keys)
 
 pub one_file : (b c : List ℕ) → Bytes b → Bytes c → (x y : Arith) → condition b ≡ Condition.passed x → condition c ≡ Condition.passed y → form x ≡ form y
-    → (old other : Records) (n k m l : ℕ) → (wrote b old).answer ≡ Written.Records n k → (wrote c other).answer ≡ Written.Records m l
+    → (old other : Records) (n k m l : ℕ) → (wrote b old).answer ≡ Ok (record { records = n; key_bytes = k }) → (wrote c other).answer ≡ Ok (record { records = m; key_bytes = l })
     → (n ≡ m) × (k ≡ l) × (reported n k (wrote b old).records ≡ reported m l (wrote c other).records)
 one_file b c p q x y e f same old other n k m l told heard =
     let w = write_writes b x old n k e told in

@@ -1,6 +1,7 @@
 -- Laws of the definitions in specs/, one file a subject.
 pub mod Tests
 pub mod Refusals
+pub mod Results
 pub mod Encodable
 pub mod Needs
 pub mod Instructions

@@ -9,9 +9,10 @@ use lib.ListN.{length, take, drop, length-append, length-reverse, length-drop, t
 use lib.Seq.{length-take-le, take_at, drop_at}
 use Rattle.slices.specs.Bytes.{All, Bytes}
 use Rattle.slices.proofs.Bytes.{all_append}
+use Rattle.semantics.proofs.Results.{same_ok}
 use Rattle.semantics.specs.Check.{condition}
 use Rattle.semantics.specs.Code.{code, max_code, max_tokens}
-use Rattle.semantics.specs.Decode.{Reading, decode, decoded, decoded_as, reading, unless_ruled}
+use Rattle.semantics.specs.Decode.{Decoded, Reading, decode, decoded, decoded_as, reading, unless_ruled}
 use Rattle.semantics.specs.Evaluate.{Lent, evaluated}
 use Rattle.semantics.specs.FromTokens.{Found, found, from_tokens, nothing}
 use Rattle.semantics.specs.Meaning.{CallAccepts, CallUnambiguous, DecodeAccepts, FormAt, HasForm, ListUnambiguous, PassingAt, Sound, Unambiguous}
@@ -155,8 +156,8 @@ module _ (r : Records) (old : List ℕ) (few : length r.kinds ≤ max_tokens) (a
     where
       go : (g : Reading) → CallAccepts (decoded_as old g).answer (decoded_as old g).buffer b n → g ≡ Reading.accepted b n
       go (Reading.accepted c m) a =
-          let size : length c ≡ length b = cc in
-          let start : m ≡ n = cc in
+          let size : length c ≡ length b = ap (λ (d : Decoded). d.bytes) (same_ok a.0) in
+          let start : m ≡ n = ap (λ (d : Decoded). d.start) (same_ok a.0) in
           cc (start, take_at c (drop (length c) old) (length b) size, a.1)
       go (Reading.refused x) a = cc
 

@@ -1,4 +1,5 @@
 -- What the calls know of a condition that 1 to 5 let pass.
+use Rattle.std.proofs.Common.{Result, Ok, Err}
 use Prim.Native.Nat.{ℕ, ◌*◌, ◌<◌, ◌≤◌}
 use mathlib.Core.Bool.{Bool, true, false, cond}
 use mathlib.Core.Option.{Option, none, some}
@@ -10,6 +11,7 @@ use borrow.Author.Tests.{le-leb, leb-false, leb-true, lt-leb, ltb-false, ltb-tru
 use lib.ListN.{length}
 use lib.Dec.{leb, ltb}
 use Rattle.slices.specs.Bytes.{Bytes}
+use Rattle.semantics.proofs.Results.{same_ok}
 use Rattle.semantics.specs.Check.{Checked, Condition, answered, checked, condition, judged, judged_parsed, passed_unless}
 use Rattle.semantics.specs.Code.{code, max_code, max_tokens}
 use Rattle.semantics.specs.Oracle.{oracle_rule, oracles}
@@ -28,14 +30,14 @@ pub record Passing (b : List ℕ) (a : Arith) : Type 0 where
   pub rule : oracle_rule a ≡ none
 
 -- Check's answer tells whether the condition passes
-pub answered-refused : (k : Condition) (r : Refusal) → answered k ≡ Checked.Refused r → k ≡ Condition.refused r
+pub answered-refused : (k : Condition) (r : Refusal) → answered k ≡ Err r → k ≡ Condition.refused r
 answered-refused (Condition.refused s) r e = cc
 answered-refused (Condition.passed a) r e = cc
 
-pub answered-passed : (k : Condition) (n m : ℕ) → answered k ≡ Checked.Passed n m
+pub answered-passed : (k : Condition) (n m : ℕ) → answered k ≡ Ok (record { tokens = n; oracles = m })
     → (a : Arith) × (k ≡ Condition.passed a) × (length (form a) ≡ n) × (oracles a ≡ m)
 answered-passed (Condition.refused s) n m e = absurd (let z : ◌≡◌ {A = ℕ} 0 1 = cc in omega arith)
-answered-passed (Condition.passed a) n m e = (a, refl, cc, cc)
+answered-passed (Condition.passed a) n m e = (a, refl, ap (λ (c : Checked). c.tokens) (same_ok e), ap (λ (c : Checked). c.oracles) (same_ok e))
 
 not_long : (t : Bool) (k : Condition) (a : Arith) → cond t k (Condition.refused Refusal.CodeTooLong) ≡ Condition.passed a
     → (t ≡ true) × (k ≡ Condition.passed a)
@@ -73,7 +75,7 @@ pub record Passed (b : List ℕ) (t m : ℕ) : Type 0 where
   pub terminals : oracles tree ≡ m
   pub told : Passing b tree
 
-pub passed : (b : List ℕ) → Bytes b → (t m : ℕ) → checked b ≡ Checked.Passed t m → Passed b t m
+pub passed : (b : List ℕ) → Bytes b → (t m : ℕ) → checked b ≡ Ok (record { tokens = t; oracles = m }) → Passed b t m
 unfolding checked
 passed b h t m e =
     let k = answered-passed (condition b) t m e in
@@ -85,14 +87,14 @@ unfolding condition
 too_long b h = rw (lt-leb (length b) max_code h)
 
 -- code that passes is not
-pub passed_short : (b : List ℕ) (t m : ℕ) → checked b ≡ Checked.Passed t m → length b ≤ max_code
+pub passed_short : (b : List ℕ) (t m : ℕ) → checked b ≡ Ok (record { tokens = t; oracles = m }) → length b ≤ max_code
 unfolding checked
 passed_short b t m e = go (leb (length b) max_code) refl
   where
     go : (x : Bool) → leb (length b) max_code ≡ x → length b ≤ max_code
     go true q = leb-true (length b) max_code q
     go false q =
-        let r : Checked.Refused Refusal.CodeTooLong ≡ Checked.Passed t m = ap answered (sym (too_long b (leb-false (length b) max_code q))) ∙ e in
+        let r : ◌≡◌ {A = Result Checked Refusal} (Err Refusal.CodeTooLong) (Ok (record { tokens = t; oracles = m })) = ap answered (sym (too_long b (leb-false (length b) max_code q))) ∙ e in
         absurd (let z : ◌≡◌ {A = ℕ} 0 1 = cc in omega arith)
 
 pub too_many : (a : Arith) → max_tokens < length (form a) → judged a ≡ Condition.refused Refusal.TooManyTokens

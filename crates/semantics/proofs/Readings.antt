@@ -1,5 +1,6 @@
 -- What each operation answers, and places where document 01 leaves room, each with the smallest input that shows the reading taken (docs/DECISIONS.md):
 -- one table, one computed proof.
+use Rattle.std.proofs.Common.{Bool, Result, Ok, Err}
 use Prim.Native.Nat.{ℕ, ◌-◌, ◌^◌}
 use mathlib.Core.Bool.{cond}
 use mathlib.Core.Path.{◌≡◌, refl}
@@ -14,7 +15,7 @@ use Rattle.slices.specs.Bytes.{bytes_value, little_endian}
 use Rattle.semantics.specs.Check.{Checked, checked, condition, judged}
 use Rattle.semantics.specs.Code.{code, command_of, expr_code, idx_code}
 use Rattle.semantics.specs.Decode.{Decoded, Reading, decode, decoded}
-use Rattle.semantics.specs.Evaluate.{Evaluated, Evaluation, Verdict, evaluated, evaluated_tree, initial}
+use Rattle.semantics.specs.Evaluate.{Evaluated, Evaluation, evaluated, evaluated_tree, initial}
 use Rattle.semantics.specs.Evaluation.{Amounts, Env, Outcome, amount, State, err, eval, eval_arith, index, ok, oracle, popping}
 use Rattle.semantics.specs.FromTokens.{comparison, expr_from_tokens, expr_within, from_tokens, head, head_form, idx_from_tokens, idx_head, idx_head_form, idx_within}
 use Rattle.semantics.specs.Operations.{cmp_ops}
@@ -60,9 +61,9 @@ abbrev on : List ℕ → Env → List ℕ → List ℕ → List ℕ → Evaluati
 on c e bytes ends buffer = evaluated c (record { env = e; witness = bytes; ends = ends; buffer = buffer })
 
 -- number, verdict (1 for true) or data, checks, elements left
-abbrev shown_verdict : Verdict → List ℕ
-shown_verdict (Verdict.Is v) = 0 ∷ cond v 1 0 ∷ 0 ∷ []
-shown_verdict (Verdict.Refused r) = refused r
+abbrev shown_verdict : Result Bool Refusal → List ℕ
+shown_verdict (Ok v) = 0 ∷ cond v 1 0 ∷ 0 ∷ []
+shown_verdict (Err r) = refused r
 
 abbrev shown : Evaluated → List ℕ
 shown a = shown_verdict a.verdict ++ a.checks ∷ a.left ∷ []
@@ -87,16 +88,16 @@ past = Expr.Lookup AmountList.Input (IdxExpr.Op IdxOp.Sub IdxExpr.CurrIdx (IdxEx
 abbrev big : Expr
 big = Expr.Binary BinOp.Add (Expr.Const (2 ^ 63 - 1)) (Expr.Const 1)
 
-abbrev place : Checked → List ℕ
-place (Checked.Refused r) = refused r
-place (Checked.Passed tokens oracles) = 0 ∷ []
+abbrev place : Result Checked Refusal → List ℕ
+place (Err r) = refused r
+place (Ok a) = 0 ∷ []
 
 abbrev records : List ℕ → Records
 records kinds = record { kinds = kinds; numbers = map (λ k. 5) kinds; places = map (λ k. 0) kinds; keys = [] }
 
-abbrev shown_written : Written → List ℕ
-shown_written (Written.Records n k) = n ∷ k ∷ []
-shown_written (Written.Refused r) = refused r
+abbrev shown_written : Result Written Refusal → List ℕ
+shown_written (Ok a) = a.records ∷ a.key_bytes ∷ []
+shown_written (Err r) = refused r
 
 abbrev write : List ℕ → List ℕ → List ℕ
 write c kinds = shown_written (wrote c (records kinds)).answer
@@ -120,9 +121,9 @@ keys_left c n =
     let w = wrote c (record { kinds = replicate 40 0; numbers = replicate 40 0; places = replicate 40 1; keys = replicate n 0 }) in
     shown_written w.answer ++ key_places w.records.kinds w.records.places ++ w.records.keys
 
-abbrev shown_decoded : Decoded → List ℕ
-shown_decoded (Decoded.Code n start) = n ∷ start ∷ []
-shown_decoded (Decoded.Refused r) = refused r
+abbrev shown_decoded : Result Decoded Refusal → List ℕ
+shown_decoded (Ok a) = a.bytes ∷ a.start ∷ []
+shown_decoded (Err r) = refused r
 
 -- where the tail begins, or the refusal
 abbrev shown_tail : Reading → List ℕ

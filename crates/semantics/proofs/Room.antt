@@ -1,4 +1,5 @@
 -- What Write and Decode make of the number of records: Write looks no further than a form reaches.
+use Rattle.std.proofs.Common.{Err}
 use Prim.Native.Nat.{ℕ, ◌*◌, ◌≤◌, ◌<◌}
 use mathlib.Core.Bool.{Bool, true, false, ◌&&◌}
 use mathlib.Core.Path.{◌≡◌, refl, ap}
@@ -9,7 +10,6 @@ use lib.ListN.{length}
 use lib.Dec.{leb}
 use Rattle.semantics.specs.Refusals.{first_of, unless}
 use Rattle.slices.specs.Bytes.{Bytes}
-use Rattle.semantics.specs.declared.Decoded.{Decoded}
 use Rattle.semantics.specs.declared.Refusal.{Refusal}
 use Rattle.semantics.specs.Check.{Condition, condition}
 use Rattle.semantics.specs.Code.{max_tokens}
@@ -23,7 +23,7 @@ use Rattle.semantics.proofs.Tests.{and_true}
 
 -- 10 before 9, of an input that is too long to compute
 pub too_many_records : (r : Records) (old : List ℕ) → max_tokens < length r.kinds
-    → decoded r old ≡ record { answer = Decoded.Refused Refusal.TooManyRecords; buffer = old }
+    → decoded r old ≡ record { answer = Err Refusal.TooManyRecords; buffer = old }
 unfolding decoded
 too_many_records r old h = rw (lt-leb (length r.kinds) max_tokens h)
 

@@ -1,4 +1,5 @@
 -- The round trip: Decode of what Write wrote gives back the condition, the twin apart, at position 0.
+use Rattle.std.proofs.Common.{Ok}
 use Prim.Native.Nat.{ℕ, zero, suc, ◌+◌, ◌*◌, ◌≤◌, ◌<◌, ◌^◌}
 use mathlib.Core.Bool.{Bool, true, false, ◌&&◌, ◌||◌, not}
 use mathlib.Core.Option.{Option, none}
@@ -12,9 +13,10 @@ use lib.ListN.{length, get_or, take, drop, length-map, get_or-map}
 use lib.Seq.{ext_get_or, get_or-take, take_at}
 use Rattle.slices.specs.Bytes.{All, Bytes, over}
 use Rattle.slices.proofs.Bytes.{all_get_d}
+use Rattle.semantics.proofs.Results.{same_ok}
 use Rattle.semantics.specs.Check.{Condition, condition}
 use Rattle.semantics.specs.Code.{code, max_code}
-use Rattle.semantics.specs.Decode.{Decoded, Reading, decode, decoded, decoded_as, reading, unless_ruled}
+use Rattle.semantics.specs.Decode.{Reading, decode, decoded, decoded_as, reading, unless_ruled}
 use Rattle.semantics.specs.FromTokens.{from_tokens}
 use Rattle.semantics.specs.Oracle.{oracle_rule}
 use Rattle.semantics.specs.Records.{Records, key_of, sound_at, token_at, token_of, tokens, unsound, unsound_from}
@@ -123,16 +125,16 @@ module _ (ts : List Token) (old : Records) (sound : All Sound ts) where
 
 -- what was written, where Write says that records were
 pub write_writes : (b : List ℕ) (a : Arith) (old : Records) (count keyBytes : ℕ) → condition b ≡ Condition.passed a
-    → (wrote b old).answer ≡ Written.Records count keyBytes
+    → (wrote b old).answer ≡ Ok (record { records = count; key_bytes = keyBytes })
     → (writing b old ≡ Writing.writes (form a)) × (narrow (form a) ≡ true) × (count ≡ length (form a)) × (keyBytes ≡ 32 * length (keys_of (form a)))
 unfolding writing wrote
 write_writes b a old count keyBytes e f =
     rw e (go (narrow (form a)) (room_for (length (form a)) (length (keys_of (form a))) old) (rw e at f))
   where
-    go : (x y : Bool) → written (writes_unless (first_of (unless x Refusal.IndexConstTooLarge ∷ unless y Refusal.BufferTooShort ∷ [])) (form a)) ≡ Written.Records count keyBytes
+    go : (x y : Bool) → written (writes_unless (first_of (unless x Refusal.IndexConstTooLarge ∷ unless y Refusal.BufferTooShort ∷ [])) (form a)) ≡ Ok (record { records = count; key_bytes = keyBytes })
         → (writes_unless (first_of (unless x Refusal.IndexConstTooLarge ∷ unless y Refusal.BufferTooShort ∷ [])) (form a) ≡ Writing.writes (form a))
         × (x ≡ true) × (count ≡ length (form a)) × (keyBytes ≡ 32 * length (keys_of (form a)))
-    go true true h = (refl, refl, cc, cc)
+    go true true h = (refl, refl, sym (ap (λ (w : Written). w.records) (same_ok h)), sym (ap (λ (w : Written). w.key_bytes) (same_ok h)))
     go true false h = let z : ◌≡◌ {A = ℕ} 0 1 = cc in absurd (omega arith)
     go false y h = let z : ◌≡◌ {A = ℕ} 0 1 = cc in absurd (omega arith)
 
@@ -144,8 +146,8 @@ decode-form a e =
 
 -- THE ROUND TRIP, for a full-sized buffer: b is a condition a that passes, and Write wrote `count` records
 pub round_trip : (b : List ℕ) → Bytes b → (a : Arith) → condition b ≡ Condition.passed a
-    → (old : Records) (count keyBytes : ℕ) → (wrote b old).answer ≡ Written.Records count keyBytes → (buffer : List ℕ) → max_code ≤ length buffer
-    → decoded (first_records count (wrote b old).records) buffer ≡ record { answer = Decoded.Code (length (code (canon a))) 0; buffer = over (code (canon a)) buffer }
+    → (old : Records) (count keyBytes : ℕ) → (wrote b old).answer ≡ Ok (record { records = count; key_bytes = keyBytes }) → (buffer : List ℕ) → max_code ≤ length buffer
+    → decoded (first_records count (wrote b old).records) buffer ≡ record { answer = Ok (record { bytes = length (code (canon a)); start = 0 }); buffer = over (code (canon a)) buffer }
 unfolding wrote
 round_trip b bytes a e old count keyBytes told buffer full =
     let p = passing b bytes a e in

@@ -1,5 +1,5 @@
 -- CHECK, of the contents of its slice.
-use Rattle.std.specs.Prelude.{cond, List, [], ◌∷◌, ℕ, length, leb}
+use Rattle.std.specs.Prelude.{cond, List, [], ◌∷◌, ℕ, length, leb, Result, Ok, Err}
 use Rattle.std.proofs.Math.Option.{Option, none, some}
 use Rattle.semantics.specs.Trees.{Arith}
 use Rattle.semantics.specs.Refusals.{Refusal, first_of, unless}
@@ -29,10 +29,10 @@ judged_parsed (Parsed.tree a) = judged a
 unfoldable pub condition : List ℕ → Condition
 condition b = cond (leb (length b) max_code) (judged_parsed (parse b)) (Condition.refused Refusal.CodeTooLong)
 
-abbrev pub answered : Condition → Checked
-answered (Condition.refused r) = Checked.Refused r
-answered (Condition.passed a) = Checked.Passed (length (form a)) (oracles a)
+abbrev pub answered : Condition → Result Checked Refusal
+answered (Condition.refused r) = Err r
+answered (Condition.passed a) = Ok (record { tokens = length (form a); oracles = oracles a })
 
 -- "0 is success: Check adds nothing"; the other calls need the number of tokens and of oracle terminals
-unfoldable pub checked : List ℕ → Checked
+unfoldable pub checked : List ℕ → Result Checked Refusal
 checked b = answered (condition b)

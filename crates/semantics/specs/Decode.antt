@@ -1,5 +1,5 @@
 -- DECODE, of the contents of its slices: what it answers, and what the code buffer holds then.
-use Rattle.std.specs.Prelude.{ℕ, cond, List, reverse, length, leb}
+use Rattle.std.specs.Prelude.{ℕ, cond, List, reverse, length, leb, Result, Ok, Err}
 use Rattle.std.proofs.Math.Option.{Option, none, some}
 use Rattle.slices.specs.Bytes.{over}
 use Rattle.semantics.specs.Trees.{Arith}
@@ -31,13 +31,13 @@ decode ts = reading (from_tokens (reverse ts))
 
 -- what is given back, and the code buffer then
 pub record Decoding : Type 0 where
-  pub answer : Decoded
+  pub answer : Result Decoded Refusal
   pub buffer : List ℕ
 
 -- "Decode the code length and the tail's start"
 abbrev pub decoded_as : List ℕ → Reading → Decoding
-decoded_as old (Reading.refused r) = record { answer = Decoded.Refused r; buffer = old }
-decoded_as old (Reading.accepted b start) = record { answer = Decoded.Code (length b) start; buffer = over b old }
+decoded_as old (Reading.refused r) = record { answer = Err r; buffer = old }
+decoded_as old (Reading.accepted b start) = record { answer = Ok (record { bytes = length b; start = start }); buffer = over b old }
 
 abbrev pub reading_sound : Option ℕ → List Token → List ℕ → Reading
 reading_sound (some i) ts old = Reading.refused (Refusal.TokenUnsound i)

@@ -1,5 +1,5 @@
 -- EVALUATE, of the contents of its slices: what it answers, and what the buffer for the checks holds then.
-use Rattle.std.specs.Prelude.{ℕ, ◌*◌, Bool, true, ◌&&◌, List, [], ◌∷◌, reverse, length, eqb, leb}
+use Rattle.std.specs.Prelude.{ℕ, ◌*◌, Bool, true, ◌&&◌, List, [], ◌∷◌, reverse, length, eqb, leb, Ok, Err}
 use Rattle.std.proofs.Math.Option.{Option, none, some}
 use Rattle.std.proofs.Math.Seq.{slice}
 use Rattle.slices.specs.Bytes.{over}
@@ -8,7 +8,6 @@ use Rattle.semantics.specs.Refusals.{Refusal, first_of, unless}
 use Rattle.semantics.specs.Oracle.{oracles}
 use Rattle.semantics.specs.Evaluation.{Amounts, Env, State, Outcome, ok, err, check_size, eval_arith, popping}
 use Rattle.semantics.specs.Check.{Condition, condition}
-pub use Rattle.semantics.specs.declared.Verdict.{Verdict}
 pub use Rattle.semantics.specs.declared.Evaluated.{Evaluated}
 
 -- what Evaluate is lent beside the code: amounts and current index, witness bytes with the elements' ends, and room for the checks
@@ -53,13 +52,13 @@ pub record Evaluation : Type 0 where
 
 abbrev pub ended : List ℕ → Outcome State Bool → Evaluation
 ended old (ok v st) =
-    record { answer = record { verdict = Verdict.Is v; checks = st.checks; left = length st.left }; buffer = over st.written old }
+    record { answer = record { verdict = Ok v; checks = st.checks; left = length st.left }; buffer = over st.written old }
 ended old (err r st) =
-    record { answer = record { verdict = Verdict.Refused r; checks = st.checks; left = length st.left }; buffer = over st.written old }
+    record { answer = record { verdict = Err r; checks = st.checks; left = length st.left }; buffer = over st.written old }
 
 -- "for 1 to 12 these are 0 and all"
 abbrev pub refused_call : Refusal → Lent → Evaluation
-refused_call r l = record { answer = record { verdict = Verdict.Refused r; checks = 0; left = length l.ends }; buffer = l.buffer }
+refused_call r l = record { answer = record { verdict = Err r; checks = 0; left = length l.ends }; buffer = l.buffer }
 
 abbrev pub unless_refused : Option Refusal → Lent → Evaluation → Evaluation
 unless_refused none l e = e

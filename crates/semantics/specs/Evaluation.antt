@@ -1,17 +1,16 @@
 -- "Evaluation" of a tree: the left operand first; the first refusal ends it.
-use Rattle.std.specs.Prelude.{ℕ, ◌+◌, ◌^◌, Bool, cond, List, [], ◌∷◌, ◌++◌, length, get_or, eqb, ltb, ℤ, pos, negsuc}
-use Rattle.std.proofs.Math.Option.{Option, none, some}
+use Rattle.std.specs.Prelude.{ℕ, ◌+◌, ◌^◌, Bool, cond, List, [], ◌∷◌, ◌++◌, length, get_or, eqb, ltb, ℤ, pos, negsuc, Option, Some, None, Result, Ok, Err}
 use Rattle.std.specs.Int.Signed.{lt_z}
 use Rattle.word64.specs.Bits.{signed_of}
 use Rattle.index64.specs.Steps.{in_range}
 use Rattle.slices.specs.Bytes.{bytes_value}
-use Rattle.semantics.specs.Operations.{Value, idx_row, list_row, bin_row, un_row, cmp_row}
+use Rattle.semantics.specs.Operations.{idx_row, list_row, bin_row, un_row, cmp_row}
 use Rattle.semantics.specs.Refusals.{Refusal}
 use Rattle.semantics.specs.Trees.{AmountList, BinOp, UnOp, IdxExpr, Expr, Arith}
 
 abbrev pub option_then : Option ℤ → (ℤ → Option ℤ) → Option ℤ
-option_then none f = none
-option_then (some z) f = f z
+option_then None f = None
+option_then (Some z) f = f z
 
 -- `IdxExpr::eval`: "Index steps are exact on whole numbers, .. and only 41 limits them"; R-4: "constants, intermediate values and the current index .. included"
 unfoldable pub index : ℕ → IdxExpr → Option ℤ
@@ -40,12 +39,12 @@ amounts env AmountList.InputReIssue = env.reissued
 
 -- "An explicit 64-bit amount is taken with its bits unchanged as a signed number"
 -- R-4: "A negative final index gives 43", "where 20, 22 or 24 would be judged, before them"
-unfoldable pub amount : Amounts → AmountList → ℤ → Value
+unfoldable pub amount : Amounts → AmountList → ℤ → Result ℤ Refusal
 amount a l (pos i) =
     cond (ltb i (length a.numbers))
-    (cond (eqb (get_or a.marks i 0) 1) (Value.Number (signed_of (get_or a.numbers i 0))) (Value.Refused ((list_row l).hidden i)))
-    (Value.Refused ((list_row l).outside i (length a.numbers)))
-amount a l (negsuc i) = Value.Refused Refusal.NegativeIndex
+    (cond (eqb (get_or a.marks i 0) 1) (Ok (signed_of (get_or a.numbers i 0))) (Err ((list_row l).hidden i)))
+    (Err ((list_row l).outside i (length a.numbers)))
+amount a l (negsuc i) = Err Refusal.NegativeIndex
 
 -- what comes of a step that goes by a state: a value or a refusal, and the state then
 pub data Outcome (S A : Type 0) : Type 0 where
@@ -56,9 +55,9 @@ abbrev pub onward : {S A B : Type 0} → Outcome S A → (A → S → Outcome S 
 onward (ok a st) f = f a st
 onward (err r st) f = err r st
 
-abbrev pub outcome : {S : Type 0} → Value → S → Outcome S ℤ
-outcome (Value.Number z) st = ok z st
-outcome (Value.Refused r) st = err r st
+abbrev pub outcome : {S : Type 0} → Result ℤ Refusal → S → Outcome S ℤ
+outcome (Ok z) st = ok z st
+outcome (Err r) st = err r st
 
 -- What an evaluation does with its state: `read` is the state after a lookup at an index of the list l, whose amounts are a;
 -- `oracle` is what an oracle terminal with a key and a time gives.
@@ -68,8 +67,8 @@ pub record Terminals (S : Type 0) : Type 0 where
 
 -- 41, by R-4: "when a value leaves that range or a divisor is 0"
 abbrev pub looked_up : {S : Type 0} → Terminals S → Env → AmountList → Option ℤ → S → Outcome S ℤ
-looked_up t env l none st = err Refusal.IndexStep st
-looked_up t env l (some i) st = outcome (amount (amounts env l) l i) (t.read (amounts env l) l i st)
+looked_up t env l None st = err Refusal.IndexStep st
+looked_up t env l (Some i) st = outcome (amount (amounts env l) l i) (t.read (amounts env l) l i st)
 
 -- "the left operand first"
 abbrev pub binary_step : {S : Type 0} → BinOp → (S → Outcome S ℤ) → (S → Outcome S ℤ) → S → Outcome S ℤ

@@ -1,7 +1,7 @@
 -- DEMAND 3: no token sequence carries two meanings. One statement about a whole token list, `Unambiguous`. That it holds of the decoder of token lists
 -- (`ListUnambiguous`) and of the call on records (`CallUnambiguous`) is proved in proofs/Meaning.antt (`unambiguous`, `call_unambiguous`).
 -- R-2: what a decoder's 4, 5 and 11 say of the token list, `ToldApart`; proved in proofs/ToldApart.antt of both (`told_apart`, `call_told_apart`).
-use Rattle.std.specs.Prelude.{ℕ, zero, suc, ◌<◌, ◌≤◌, ◌^◌, true, ◌≡◌, ◌↔◌, ◌⊎◌, List, [], length, take, drop}
+use Rattle.std.specs.Prelude.{ℕ, zero, suc, ◌<◌, ◌≤◌, ◌^◌, true, ◌≡◌, ◌↔◌, ◌⊎◌, List, [], length, take, drop, Result, Ok, Err}
 use Rattle.std.proofs.Math.Option.{none, some}
 use Rattle.slices.specs.Bytes.{All, Bytes}
 use Rattle.semantics.specs.Trees.{Arith}
@@ -69,21 +69,21 @@ CallUnambiguous r old Accepts =
     length r.kinds ≤ max_tokens → unsound r ≡ none → max_code ≤ length old → Unambiguous (tokens r) Accepts
 
 -- a call's own answer, with what its code buffer holds then
-abbrev pub CallAccepts : Decoded → List ℕ → List ℕ → ℕ → Type 0
-CallAccepts answer buffer b n = (answer ≡ Decoded.Code (length b) n) × (take (length b) buffer ≡ b)
+abbrev pub CallAccepts : Result Decoded Refusal → List ℕ → List ℕ → ℕ → Type 0
+CallAccepts answer buffer b n = (answer ≡ Ok (record { bytes = length b; start = n })) × (take (length b) buffer ≡ b)
 
 -- R-2. "0 is success", and a refusal has its number: of Check's answer, of what tokens are read as, and of Decode's answer
-abbrev pub checked_number : Checked → ℕ
-checked_number (Checked.Passed tokens oracles) = 0
-checked_number (Checked.Refused r) = (numbered r).number
+abbrev pub checked_number : Result Checked Refusal → ℕ
+checked_number (Ok a) = 0
+checked_number (Err r) = (numbered r).number
 
 abbrev pub reading_number : Reading → ℕ
 reading_number (Reading.accepted b start) = 0
 reading_number (Reading.refused r) = (numbered r).number
 
-abbrev pub decoded_number : Decoded → ℕ
-decoded_number (Decoded.Code bytes start) = 0
-decoded_number (Decoded.Refused r) = (numbered r).number
+abbrev pub decoded_number : Result Decoded Refusal → ℕ
+decoded_number (Ok a) = 0
+decoded_number (Err r) = (numbered r).number
 
 -- the tail from n on is the form of the condition b, which the oracle rule turns down
 pub record TurnedDownAt (ts : List Token) (n : ℕ) (b : List ℕ) : Type 0 where

@@ -1,16 +1,12 @@
 -- The operations of a condition, a row for each: its command byte ("Condition code"), its tokens ("Tokens", as the source's `push_to_builder` has
 -- them), and what it answers ("Evaluation").
-use Rattle.std.specs.Prelude.{ℕ, Bool, List, [], ◌∷◌, ◌++◌, ℤ}
-use Rattle.std.proofs.Math.Option.{Option}
+use Rattle.std.specs.Prelude.{ℕ, Bool, List, [], ◌∷◌, ◌++◌, ℤ, Option, Some, None, Result, Ok, Err}
 use Rattle.std.specs.Int.Signed.{lt_z, le_z}
-use Rattle.num64.specs.declared.Signed64.{Signed64}
-use Rattle.num64.specs.declared.Signed64.TheVariants as S
 use Rattle.num64.specs.Exact.{checked_add, checked_sub, checked_mul, checked_div, checked_rem, checked_neg}
 use Rattle.word64.specs.Bits.{and_of, or_of, xor_of, invert_of, eq_z}
 use Rattle.index64.specs.Steps.{idx_add, idx_sub, idx_mul, idx_div}
 use Rattle.semantics.specs.Trees.{IdxOp, AmountList, BinOp, UnOp, CmpOp}
 use Rattle.semantics.specs.Refusals.{Refusal}
-pub use Rattle.semantics.specs.declared.Value.{Value}
 
 -- "Forms are the same when kinds, numbers and key bytes agree"; a field that the kind does not use is 0 or empty
 pub record Token : Type 0 where
@@ -75,14 +71,14 @@ list_row AmountList.InputReIssue =
     row 21 (op 24 ∷ op 17 ∷ op 17 ∷ op 17 ∷ op 17 ∷ verified) Refusal.InputIndexOutOfBounds Refusal.NonExplicitInputReIssuance
 
 -- a 64-bit result, or the refusal where 64 bits hold none
-abbrev pub or_refused : Signed64 → Refusal → Value
-or_refused (S.Value z) r = Value.Number z
-or_refused S.Overflow r = Value.Refused r
+abbrev pub or_refused : Option ℤ → Refusal → Result ℤ Refusal
+or_refused (Some z) r = Ok z
+or_refused None r = Err r
 
 pub record BinRow : Type 0 where
   pub command : ℕ
   pub form : List Token
-  pub result : ℤ → ℤ → Value
+  pub result : ℤ → ℤ → Result ℤ Refusal
 
 abbrev pub bin_row : BinOp → BinRow
 -- ADD64 <1> EQUALVERIFY
@@ -96,20 +92,20 @@ bin_row BinOp.Div = record { command = 25; form = op 10 ∷ verified ++ op 16 �
 -- DIV64 <1> EQUALVERIFY DROP, which keeps the remainder
 bin_row BinOp.Mod = record { command = 26; form = op 10 ∷ verified ++ op 17 ∷ []; result = λ x y. or_refused (checked_rem x y) (Refusal.ModOverflow x y) }
 -- AND
-bin_row BinOp.BitAnd = record { command = 27; form = op 18 ∷ []; result = λ x y. Value.Number (and_of x y) }
+bin_row BinOp.BitAnd = record { command = 27; form = op 18 ∷ []; result = λ x y. Ok (and_of x y) }
 -- OR
-bin_row BinOp.BitOr = record { command = 28; form = op 19 ∷ []; result = λ x y. Value.Number (or_of x y) }
+bin_row BinOp.BitOr = record { command = 28; form = op 19 ∷ []; result = λ x y. Ok (or_of x y) }
 -- XOR
-bin_row BinOp.Xor = record { command = 29; form = op 20 ∷ []; result = λ x y. Value.Number (xor_of x y) }
+bin_row BinOp.Xor = record { command = 29; form = op 20 ∷ []; result = λ x y. Ok (xor_of x y) }
 
 pub record UnRow : Type 0 where
   pub command : ℕ
   pub form : List Token
-  pub result : ℤ → Value
+  pub result : ℤ → Result ℤ Refusal
 
 abbrev pub un_row : UnOp → UnRow
 -- INVERT
-un_row UnOp.Invert = record { command = 30; form = op 21 ∷ []; result = λ x. Value.Number (invert_of x) }
+un_row UnOp.Invert = record { command = 30; form = op 21 ∷ []; result = λ x. Ok (invert_of x) }
 -- NEG64 <1> EQUALVERIFY
 un_row UnOp.Negate = record { command = 31; form = op 13 ∷ verified; result = λ x. or_refused (checked_neg x) (Refusal.NegOverflow x) }
 

@@ -1,5 +1,5 @@
 -- WRITE, of the contents of its slices: what it answers, and what the lent records and key bytes are then.
-use Rattle.std.specs.Prelude.{ℕ, suc, ◌*◌, Bool, ◌&&◌, cond, List, [], ◌∷◌, ◌++◌, map, length, eqb, leb, ltb}
+use Rattle.std.specs.Prelude.{ℕ, suc, ◌*◌, Bool, ◌&&◌, cond, List, [], ◌∷◌, ◌++◌, map, length, eqb, leb, ltb, Result, Ok, Err}
 use Rattle.std.proofs.Math.Option.{Option, none, some}
 use Rattle.slices.specs.Bytes.{over}
 use Rattle.semantics.specs.Refusals.{Refusal, first_of, unless}
@@ -71,9 +71,9 @@ unfoldable pub writing : List ℕ → Records → Writing
 writing b old = writing_by (condition b) old
 
 -- "Write the records and key bytes written"
-abbrev pub written : Writing → Written
-written (Writing.refused r) = Written.Refused r
-written (Writing.writes ts) = Written.Records (length ts) (32 * length (keys_of ts))
+abbrev pub written : Writing → Result Written Refusal
+written (Writing.refused r) = Err r
+written (Writing.writes ts) = Ok (record { records = length ts; key_bytes = 32 * length (keys_of ts) })
 
 -- the lent records then: what is written stands at the front, and the rest is kept; a refusal writes nothing
 abbrev pub leaves : Writing → Records → Records
@@ -88,7 +88,7 @@ leaves (Writing.writes ts) old =
 
 -- what is given back, and the lent records then
 pub record Wrote : Type 0 where
-  pub answer : Written
+  pub answer : Result Written Refusal
   pub records : Records
 
 unfoldable pub wrote : List ℕ → Records → Wrote

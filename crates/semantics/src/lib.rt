@@ -10,7 +10,7 @@ pub const MAX_CODE: usize = 9 * MAX_TOKENS;
 // ---- operations, by the names of the source
 
 // `IdxExpr`'s operations.
-#[derive(Clone, Copy)]
+#[derive(Clone, Copy, Debug, PartialEq, Eq)]
 pub enum IdxOp {
     Add,
     Sub,
@@ -19,7 +19,7 @@ pub enum IdxOp {
 }
 
 // The four amount lists that a value is looked up in.
-#[derive(Clone, Copy)]
+#[derive(Clone, Copy, Debug, PartialEq, Eq)]
 pub enum AmountList {
     Input,
     Output,
@@ -28,7 +28,7 @@ pub enum AmountList {
 }
 
 // `ExprInner`'s operations on two values.
-#[derive(Clone, Copy)]
+#[derive(Clone, Copy, Debug, PartialEq, Eq)]
 pub enum BinOp {
     Add,
     Sub,
@@ -41,14 +41,14 @@ pub enum BinOp {
 }
 
 // `ExprInner`'s operations on one value.
-#[derive(Clone, Copy)]
+#[derive(Clone, Copy, Debug, PartialEq, Eq)]
 pub enum UnOp {
     Invert,
     Negate,
 }
 
 // `ArithInner`'s comparisons.
-#[derive(Clone, Copy)]
+#[derive(Clone, Copy, Debug, PartialEq, Eq)]
 pub enum CmpOp {
     Eq,
     Lt,
@@ -57,8 +57,9 @@ pub enum CmpOp {
     Geq,
 }
 
-// What a command byte of condition code stands for.
-#[derive(Clone, Copy)]
+// What a command byte of condition code stands for. `Unknown` is no Option's None: the definitions give a byte that no command has a row like the others
+// (`command_row`), so that one walk over bytes serves all code.
+#[derive(Clone, Copy, Debug, PartialEq, Eq)]
 pub enum Command {
     Unknown,
     IdxConst,
@@ -75,7 +76,7 @@ pub enum Command {
 }
 
 // What a terminal is to the oracle rule.
-#[derive(Clone, Copy)]
+#[derive(Clone, Copy, Debug, PartialEq, Eq)]
 pub enum Terminal {
     PriceOracle1,
     PriceOracle1W,
@@ -85,7 +86,7 @@ pub enum Terminal {
 // ---- what the calls give back
 
 // Why a call refuses; 4, 5 and 20 to 40 by the names of the source. The numbers are in specs/Refusals.antt.
-#[derive(Clone, Copy)]
+#[derive(Clone, Copy, Debug, PartialEq, Eq)]
 pub enum Refusal {
     CodeTooLong,
     NotWellFormed(usize),
@@ -125,57 +126,38 @@ pub enum Refusal {
 }
 
 // A refusal's number in document 01, with its data: 0 where none is named, and a signed operand as its 64 bits.
-#[derive(Clone, Copy)]
+#[derive(Clone, Copy, Debug, PartialEq, Eq)]
 pub struct Numbered {
     pub number: u32,
     pub first: u64,
     pub second: u64,
 }
 
-// A value, or why there is none.
-#[derive(Clone, Copy)]
-pub enum Value {
-    Number(i64),
-    Refused(Refusal),
-}
-
 // The tokens and oracle terminals of a condition that 1 to 5 let pass.
-#[derive(Clone, Copy)]
-pub enum Checked {
-    Passed { tokens: usize, oracles: usize },
-    Refused(Refusal),
+#[derive(Clone, Copy, Debug, PartialEq, Eq)]
+pub struct Checked {
+    pub tokens: usize,
+    pub oracles: usize,
 }
 
-#[derive(Clone, Copy)]
-pub enum Verdict {
-    Is(bool),
-    Refused(Refusal),
-}
-
-// The verdict, the number of checks written, and of witness elements left.
-#[derive(Clone, Copy)]
+// The verdict or why there is none, the number of checks written, and of witness elements left.
+#[derive(Clone, Copy, Debug, PartialEq, Eq)]
 pub struct Evaluated {
-    pub verdict: Verdict,
+    pub verdict: Result<bool, Refusal>,
     pub checks: usize,
     pub left: usize,
 }
 
-#[derive(Clone, Copy)]
-pub enum Written {
-    Records { records: usize, key_bytes: usize },
-    Refused(Refusal),
-}
-
-// The number of bytes of the script.
-#[derive(Clone, Copy)]
-pub enum ScriptWritten {
-    Script(usize),
-    Refused(Refusal),
+// How many records and key bytes were written.
+#[derive(Clone, Copy, Debug, PartialEq, Eq)]
+pub struct Written {
+    pub records: usize,
+    pub key_bytes: usize,
 }
 
 // The length of the code, and the start of the tail that is its token form.
-#[derive(Clone, Copy)]
-pub enum Decoded {
-    Code { bytes: usize, start: usize },
-    Refused(Refusal),
+#[derive(Clone, Copy, Debug, PartialEq, Eq)]
+pub struct Decoded {
+    pub bytes: usize,
+    pub start: usize,
 }

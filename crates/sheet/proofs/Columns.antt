@@ -1,13 +1,12 @@
 -- A column is written from its right end, and a line column by column.
-use Prim.Native.Nat.{ℕ, zero, suc, ◌+◌, ◌-◌, ◌≤◌, ◌<◌}
-use mathlib.Core.Path.{◌≡◌, refl, ap, ◌∙◌}
-use mathlib.Core.List.{List, [], ◌∷◌, ◌++◌}
-use native.Mathlib.Numerals.{add-one}
+use Prim.Native.Nat.{ℕ, ◌+◌, ◌-◌, ◌≤◌}
+use mathlib.Core.Path.{◌≡◌, ap, ◌∙◌}
+use mathlib.Core.List.{List, ◌++◌}
 use native.Mathlib.Omega.{arith}
 use borrow.Rule.Slice.PartMut.{mid_of, put_mid}
-use lib.ListN.{length, drop, set, take, length-append, length-drop, length-take, length-replicate, replicate}
+use lib.ListN.{length, drop, take, length-append, length-drop, length-take, length-replicate, replicate}
 use lib.Seq.{drop_at, length-take-le}
-use Rattle.slices.proofs.Front.{Front, front_length, front-lent, front-set}
+use Rattle.slices.proofs.Front.{Front, front_length, front-lent}
 use Rattle.decimals.specs.Decimal.{Ending}
 use Rattle.decimals.proofs.Ends.{ending-length}
 use Rattle.sheet.specs.Sheet.{blank, right_aligned}
@@ -17,25 +16,16 @@ unfolding right_aligned
 length_aligned w t h = simp (length-append, length-replicate) (omega arith)
 
 -- a text at the end of a column, and blanks in front of it
-pub aligned : {old text now last : List ℕ} {start : ℕ} → Ending old text now start → last ≡ replicate (length (mid_of 0 (start - 0) now)) blank
-    → put_mid 0 (start - 0) now last ≡ right_aligned (length old) text
+pub aligned : {old text now front : List ℕ} {start : ℕ} → Ending old text now start → front ≡ replicate (length (take start now)) blank
+    → front ++ drop start now ≡ right_aligned (length old) text
 unfolding right_aligned
-aligned {old} {text} {now} {last} {start} e l =
-    let z : start - 0 ≡ start = omega arith in
+aligned {old} {text} {now} {front} {start} e l =
     let w : length (take start now) ≡ start = length-take-le start now (omega (arith, ending-length e, e.ends)) in
     let d : drop start now ≡ text = ap (drop start) e.is ∙ drop_at (take start old) text start (length-take-le start old (omega (arith, e.ends))) in
     let k : length old - length text ≡ start = omega (arith, e.ends) in
-    rw (z, k, l, z, w, d)
+    rw (k, l, w, d)
 
 -- ---- columns one after another (`Front`)
-
--- one blank more
-pub front-blank : {now xs : List ℕ} {n : ℕ} → Front now xs (replicate n blank) n → n < length xs → Front (set now n blank) xs (replicate (n + 1) blank) (n + 1)
-front-blank {now} {xs} {n} f h = rw (add-one n, ← one_more n) (rw add-one at (front-set blank f h))
-  where
-    one_more : (k : ℕ) → replicate k blank ++ blank ∷ [] ≡ replicate (suc k) blank
-    one_more zero = refl
-    one_more (suc k) = ap (λ (l : List ℕ). blank ∷ l) (one_more k)
 
 -- the next m places were lent, and have come back with a text right-aligned in them
 pub front_column : {now xs ws last : List ℕ} {n : ℕ} (m : ℕ) (t : List ℕ) → Front now xs ws n → n + m ≤ length xs → length t ≤ m

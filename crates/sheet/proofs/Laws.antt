@@ -1,4 +1,5 @@
 -- What holds of every sheet.
+use Rattle.std.proofs.Common.{Result, Ok, Err}
 use Prim.Native.Nat.{ℕ, zero, suc, ◌+◌, ◌-◌, ◌≤◌, ◌<◌}
 use mathlib.Core.Bool.{Bool, true, false}
 use mathlib.Core.Path.{◌≡◌, refl, sym, ap, ◌∙◌}
@@ -9,14 +10,12 @@ use lib.Dec.{ltb}
 use lib.ListN.{drop, length, length-append, length-drop, take}
 use lib.Seq.{take_at}
 use Rattle.slices.specs.Bytes.{All, Bytes, over}
-use Rattle.semantics.specs.declared.Checked.{Checked}
 use Rattle.semantics.specs.declared.Refusal.{Refusal}
 use Rattle.semantics.specs.Check.{answered, checked}
 use Rattle.semantics.specs.Code.{max_code}
 use Rattle.semantics.specs.Parse.{Instruction, after, command_at, instructions}
 use Rattle.semantics.proofs.Passing.{passed_short, too_long}
 use Rattle.summary.specs.declared.Summary.{Summary}
-use Rattle.condition.specs.declared.Examined.{Examined}
 use Rattle.condition.specs.Walk.{examined, next, start}
 use Rattle.condition.proofs.Checks.{refused_early}
 use Rattle.condition.proofs.Onward.{passed, told}
@@ -48,15 +47,15 @@ pub lines-wide : (c : List ℕ) → Bytes c → Wide (lines c)
 unfolding lines
 lines-wide c b = go (examined c) refl
   where
-    go : (x : Examined) → examined c ≡ x → Wide (lines_of (checked c) c)
-    go (Examined.Refused r) e = let q = told c (Examined.Refused r) e in rw q (refusal-wide r (refused_early c r q), tt)
-    go (Examined.Passed s) e =
-        let q = told c (Examined.Passed s) e in
+    go : (x : Result Summary Refusal) → examined c ≡ x → Wide (lines_of (checked c) c)
+    go (Err r) e = let q = told c (Err r) e in rw q (refusal-wide r (refused_early c r q), tt)
+    go (Ok s) e =
+        let q = told c (Ok s) e in
         let p = passed c s e in
         rw q (wide_from c b (passed_short c s.tokens s.oracles q) p.last start (length c) 0 0 (omega arith) (position_start c p.last p.walk))
 
 -- "per command"
-pub lines-count : (c : List ℕ) (t o : ℕ) → checked c ≡ Checked.Passed t o → length (lines c) ≡ length (instructions c)
+pub lines-count : (c : List ℕ) (t o : ℕ) → checked c ≡ Ok (record { tokens = t; oracles = o }) → length (lines c) ≡ length (instructions c)
 unfolding lines
 lines-count c t o e = rw e (go 0 (instructions c))
   where

@@ -1,4 +1,5 @@
 -- The lines of code that Check lets pass, one after another.
+use Rattle.std.proofs.Common.{Ok, Err}
 use Prim.Native.Nat.{ℕ, suc, ◌+◌, ◌-◌, ◌*◌, ◌≤◌, ◌<◌}
 use mathlib.Core.Path.{◌≡◌, refl, sym, ap, ◌∙◌}
 use mathlib.Core.List.{List, [], ◌∷◌, ◌++◌, append_assoc, append-nil}
@@ -8,7 +9,6 @@ use lib.ListN.{length, drop, drop_of_length-le, get_or, length-append, length-dr
 use Rattle.slices.specs.Bytes.{Bytes, over}
 use Rattle.slices.proofs.Bytes.{all_drop, all_take}
 use Rattle.slices.proofs.Front.{Front, front-lent, front_none}
-use Rattle.semantics.specs.declared.Checked.{Checked}
 use Rattle.semantics.specs.declared.Refusal.{Refusal}
 use Rattle.semantics.specs.Check.{checked}
 use Rattle.semantics.specs.Code.{max_code, max_tokens}
@@ -126,13 +126,13 @@ module _ (c old now : List ℕ) (at n : ℕ) (p : Progress c old now at n) where
 
 -- ---- the sheet
 
-pub sheet-passed : (c : List ℕ) (t o : ℕ) → checked c ≡ Checked.Passed t o → sheet c ≡ all_lines c
+pub sheet-passed : (c : List ℕ) (t o : ℕ) → checked c ≡ Ok (record { tokens = t; oracles = o }) → sheet c ≡ all_lines c
 unfolding sheet lines
 sheet-passed c t o e = rw e
 
-pub sheet-refused : (c : List ℕ) (r : Refusal) → checked c ≡ Checked.Refused r → sheet c ≡ refusal_line r ++ line_feed ∷ []
+pub sheet-refused : (c : List ℕ) (r : Refusal) → checked c ≡ Err r → sheet c ≡ refusal_line r ++ line_feed ∷ []
 unfolding sheet lines
 sheet-refused c r e = rw e (append-nil (refusal_line r ++ line_feed ∷ []))
 
-pub refusal_long : (c : List ℕ) (r : Refusal) → checked c ≡ Checked.Refused r → length (refusal_line r ++ line_feed ∷ []) ≡ 30
+pub refusal_long : (c : List ℕ) (r : Refusal) → checked c ≡ Err r → length (refusal_line r ++ line_feed ∷ []) ≡ 30
 refusal_long c r e = length-append (refusal_line r) (line_feed ∷ []) ∙ rw (refusal-wide r (refused_early c r e)) refl

@@ -1,6 +1,6 @@
 -- R-10: the sheet of condition code, as bytes. "Off the unit, a program reads a code from standard input and prints one line of 29 characters per command, then a
 -- line feed".
-use Rattle.std.specs.Prelude.{ℕ, ◌+◌, ◌-◌, List, [], ◌∷◌, ◌++◌, length, drop, replicate}
+use Rattle.std.specs.Prelude.{ℕ, ◌+◌, ◌-◌, List, [], ◌∷◌, ◌++◌, length, drop, replicate, Result, Ok, Err}
 use Rattle.slices.specs.Bytes.{bytes_value}
 use Rattle.word64.specs.Bits.{signed_of}
 use Rattle.decimals.specs.Decimal.{decimal, signed}
@@ -54,9 +54,9 @@ command_lines offset (n ∷ ns) = command_line offset n ∷ command_lines (offse
 unfoldable pub refusal_line : Refusal → List ℕ
 refusal_line r = right_aligned 29 (decimal (numbered r).number)
 
-abbrev pub lines_of : Checked → List ℕ → List (List ℕ)
-lines_of (Checked.Refused r) c = refusal_line r ∷ []
-lines_of (Checked.Passed tokens oracles) c = command_lines 0 (instructions c)
+abbrev pub lines_of : Result Checked Refusal → List ℕ → List (List ℕ)
+lines_of (Err r) c = refusal_line r ∷ []
+lines_of (Ok a) c = command_lines 0 (instructions c)
 
 unfoldable pub lines : List ℕ → List (List ℕ)
 lines c = lines_of (checked c) c

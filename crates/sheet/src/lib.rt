@@ -10,7 +10,6 @@ ghost use Rattle.condition.specs.Walk.{Passed};
 ghost use Rattle.sheet.specs.Sheet.{blank, columns, line_feed, operand, refusal_line, right_aligned, sheet};
 ghost use Rattle.sheet.specs.Fields.{Whole, all_lines, line_at, text_of};
 
-use condition::Examined;
 use decimals::{write_decimal, write_signed};
 use semantics::{Command, MAX_TOKENS, Refusal};
 
@@ -21,7 +20,7 @@ const LINE: usize = 30;
 pub const MAX_SHEET: usize = LINE * MAX_TOKENS;
 
 // What stands in a column: nothing, a number, or a signed number by its 64 bits.
-#[derive(Clone, Copy)]
+#[derive(Clone, Copy, Debug, PartialEq, Eq)]
 enum Field {
     Blank,
     Unsigned(u64),
@@ -29,16 +28,6 @@ enum Field {
 }
 
 // ---- columns
-
-fn fill_blank(out: &mut [u8])
-    ensures { out.new ≡ replicate (length out.old) blank }
-{
-    let mut i = 0;
-    while i < out.len() {
-        out[i] = b' ';
-        i += 1;
-    }
-}
 
 // The text of a field, which ends where the column ends; where it begins.
 fn write_field(field: Field, column: &mut [u8]) -> usize
@@ -57,7 +46,7 @@ fn right_align(field: Field, column: &mut [u8])
     ensures { column.new ≡ right_aligned (length column.old) (text_of field) }
 {
     let start = write_field(field, column);
-    fill_blank(&mut column[0..start]);
+    column[..start].fill(b' ');
 }
 
 // ---- lines
@@ -68,18 +57,12 @@ fn operand_of(command: Command, code: &[u8], at: usize) -> Field
     ensures { text_of result ≡ operand command (operand_bytes command code.now at) }
 {
     match command {
-        Command::Unknown => Field::Blank,
         Command::IdxConst => Field::Unsigned(slices::read_le64(code, at)),
-        Command::CurrIdx => Field::Blank,
-        Command::Index(_) => Field::Blank,
         Command::Const => Field::Signed(slices::read_le64(code, at)),
-        Command::CurrInputIdx => Field::Blank,
-        Command::Lookup(_) => Field::Blank,
-        Command::Binary(_) => Field::Blank,
-        Command::Unary(_) => Field::Blank,
-        Command::PriceOracle1 => Field::Unsigned(slices::read_le64(code, at + 32)),
-        Command::PriceOracle1W => Field::Unsigned(slices::read_le64(code, at + 32)),
-        Command::Compare(_) => Field::Blank,
+        Command::PriceOracle1 | Command::PriceOracle1W => {
+            Field::Unsigned(slices::read_le64(code, at + 32))
+        }
+        _ => Field::Blank,
     }
 }
 
@@ -127,6 +110,7 @@ fn write_lines(code: &[u8], out: &mut [u8]) -> usize
 {
     let mut at = 0;
     let mut n = 0;
+    // each command says itself where the next one stands
     while at < code.len() {
         let end = n + LINE;
         at = write_line(code, at, &mut out[n..end]);
@@ -140,10 +124,10 @@ pub fn write_sheet(code: &[u8], out: &mut [u8; MAX_SHEET]) -> usize
     ensures { (result ≡ length (sheet code.now)) × (out.new ≡ over (sheet code.now) out.old) }
 {
     match condition::examine(code) {
-        Examined::Refused(r) => {
+        Err(r) => {
             write_refusal(r, out);
             LINE
         }
-        Examined::Passed(_) => write_lines(code, out),
+        Ok(_) => write_lines(code, out),
     }
 }

@@ -1,3 +1,2 @@
+pub mod Pushed
 pub mod Run
-pub mod Stack
-pub mod Ready

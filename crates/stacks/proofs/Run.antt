@@ -1,14 +1,13 @@
 -- Evaluation as one pass over the commands gives what the tree gives: `run_code`. `fold_takes` and `fold-ends` of Machine.antt take a loop through it.
+use Rattle.std.proofs.Common.{Option, Some, None, Result, Ok, Err}
 use Prim.Native.Nat.{ℕ}
 use mathlib.Core.Bool.{Bool}
-use mathlib.Core.Option.{Option, none, some}
 use mathlib.Core.Path.{◌≡◌, refl, sym, ap, ◌∙◌}
 use mathlib.Core.List.{List, [], ◌∷◌}
 use lib.Seq.{take_at, drop_at}
 use lib.IntN.{ℤ}
 use Rattle.slices.specs.Bytes.{little_endian}
 use Rattle.slices.proofs.Bytes.{value_of-bytes}
-use Rattle.semantics.specs.declared.Value.{Value}
 use Rattle.semantics.specs.Operations.{bin_row, cmp_row, idx_row, un_row}
 use Rattle.semantics.specs.declared.AmountList.{AmountList}
 use Rattle.semantics.specs.declared.Command.{Command}
@@ -54,11 +53,11 @@ module _ {S : Type 0} (t : Terminals S) (env : Env) where
     after-value put stops k ws is h (err r st) = stays (err r st) ∙ sym (stops r st)
 
     -- `put` is where its own index goes
-    after-index : (put : Option ℤ → Run S) (st : S) → put none ≡ Run.stopped (err Refusal.IndexStep st)
+    after-index : (put : Option ℤ → Run S) (st : S) → put None ≡ Run.stopped (err Refusal.IndexStep st)
         → (k : ℤ → Option ℤ) (vs js : List ℤ) → ((z : ℤ) → g (Run.going vs (z ∷ js) st) ≡ put (k z))
         → (i : Option ℤ) → g (push_index vs js st i) ≡ put (option_then i k)
-    after-index put st stops k vs js h (some z) = h z
-    after-index put st stops k vs js h none = stays (err Refusal.IndexStep st) ∙ sym stops
+    after-index put st stops k vs js h (Some z) = h z
+    after-index put st stops k vs js h None = stays (err Refusal.IndexStep st) ∙ sym stops
 
   idx_runs : (x : IdxExpr) → IdxEncodable x → (vs is : List ℤ) (st : S)
       → on_idx step x (Run.going vs is st) ≡ push_index vs is st (index env.current x)
@@ -77,9 +76,9 @@ module _ {S : Type 0} (t : Terminals S) (env : Env) where
       (index env.current x)
 
   -- a value is pushed, or its refusal ends the run; a lookup is pushed, or 41 ends it
-  pub value-moved : (vs is : List ℤ) (st : S) (v : Value) → moved t env st (on_value vs is v) ≡ push_value vs is (outcome v st)
-  value-moved vs is st (Value.Number z) = refl
-  value-moved vs is st (Value.Refused r) = refl
+  pub value-moved : (vs is : List ℤ) (st : S) (v : Result ℤ Refusal) → moved t env st (on_value vs is v) ≡ push_value vs is (outcome v st)
+  value-moved vs is st (Ok z) = refl
+  value-moved vs is st (Err r) = refl
 
   pub fetched-moved : (m : Move) (st : S) → moved t env (after_look t env m st) (fetched env m) ≡ moved t env st m
   fetched-moved (Move.on vs is) st = refl
@@ -88,13 +87,13 @@ module _ {S : Type 0} (t : Terminals S) (env : Env) where
   fetched-moved (Move.ended v) st = refl
 
   look_moved : (l : AmountList) (vs is : List ℤ) (st : S) (i : Option ℤ) → moved t env st (look_at l vs is i) ≡ push_value vs is (looked_up t env l i st)
-  look_moved l vs is st (some z) = refl
-  look_moved l vs is st none = refl
+  look_moved l vs is st (Some z) = refl
+  look_moved l vs is st None = refl
 
   looked_up_lem : (l : AmountList) (vs is : List ℤ) (st : S) (i : Option ℤ)
       → step (push_index vs is st i) (Command.Lookup l) [] ≡ push_value vs is (looked_up t env l i st)
-  looked_up_lem l vs is st (some z) = refl
-  looked_up_lem l vs is st none = refl
+  looked_up_lem l vs is st (Some z) = refl
+  looked_up_lem l vs is st None = refl
 
   expr_runs : (x : Expr) → ExprEncodable x → (vs is : List ℤ) (st : S)
       → on_expr step x (Run.going vs is st) ≡ push_value vs is (eval t env x st)

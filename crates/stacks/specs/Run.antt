@@ -1,17 +1,14 @@
 -- Evaluation as one pass over the commands, with the values and indexes that wait, the last one first: for code that evaluates without a tree.
 -- No call's contract rests on it: `run_code` of proofs/Run.antt says that it gives what `eval_arith` gives, whatever the state.
-use Rattle.std.specs.Prelude.{ℕ, Bool, List, ◌∷◌, get_or, take, drop, ℤ, pos}
-use Rattle.std.proofs.Math.Option.{Option, none, some}
+use Rattle.std.specs.Prelude.{ℕ, Bool, List, ◌∷◌, get_or, take, drop, ℤ, pos, Option, Some, None, Result, Ok, Err}
 use Rattle.word64.specs.Bits.{signed_of}
 use Rattle.index64.specs.Steps.{in_range}
 use Rattle.slices.specs.Bytes.{bytes_value}
-use Rattle.semantics.specs.declared.Value.{Value}
 use Rattle.semantics.specs.Operations.{bin_row, cmp_row, idx_row, un_row}
 use Rattle.semantics.specs.declared.AmountList.{AmountList}
 use Rattle.semantics.specs.declared.Command.{Command}
 use Rattle.semantics.specs.Evaluation.{Env, Outcome, Terminals, amount, amounts, err, looked_up, ok}
 use Rattle.semantics.specs.declared.Refusal.{Refusal}
-use Rattle.semantics.specs.declared.Verdict.{Verdict}
 
 -- WHAT A COMMAND DOES with the operands that wait, whatever the state: these values and indexes wait then; or the amount of a list at an index, or the
 -- value of an oracle terminal with a key and a time, is still to be pushed on the values; or the evaluation ends.
@@ -19,19 +16,19 @@ pub data Move : Type 0 where
   on : List ℤ → List ℤ → Move
   look : AmountList → ℤ → List ℤ → List ℤ → Move
   ask : List ℕ → ℕ → List ℤ → List ℤ → Move
-  ended : Verdict → Move
+  ended : Result Bool Refusal → Move
 
-abbrev pub on_value : List ℤ → List ℤ → Value → Move
-on_value vs is (Value.Number z) = Move.on (z ∷ vs) is
-on_value vs is (Value.Refused r) = Move.ended (Verdict.Refused r)
+abbrev pub on_value : List ℤ → List ℤ → Result ℤ Refusal → Move
+on_value vs is (Ok z) = Move.on (z ∷ vs) is
+on_value vs is (Err r) = Move.ended (Err r)
 
 abbrev pub on_index : List ℤ → List ℤ → Option ℤ → Move
-on_index vs is (some z) = Move.on vs (z ∷ is)
-on_index vs is none = Move.ended (Verdict.Refused Refusal.IndexStep)
+on_index vs is (Some z) = Move.on vs (z ∷ is)
+on_index vs is None = Move.ended (Err Refusal.IndexStep)
 
 abbrev pub look_at : AmountList → List ℤ → List ℤ → Option ℤ → Move
-look_at l vs is (some i) = Move.look l i vs is
-look_at l vs is none = Move.ended (Verdict.Refused Refusal.IndexStep)
+look_at l vs is (Some i) = Move.look l i vs is
+look_at l vs is None = Move.ended (Err Refusal.IndexStep)
 
 -- the operand that waits k below the last
 abbrev pub operand : List ℤ → ℕ → ℤ
@@ -50,7 +47,7 @@ move current (Command.Binary o) n vs is = on_value (drop 2 vs) is ((bin_row o).r
 move current (Command.Unary o) n vs is = on_value (drop 1 vs) is ((un_row o).result (operand vs 0))
 move current Command.PriceOracle1 n vs is = Move.ask (take 32 n) (bytes_value (drop 32 n)) vs is
 move current Command.PriceOracle1W n vs is = Move.ask (take 32 n) (bytes_value (drop 32 n)) vs is
-move current (Command.Compare o) n vs is = Move.ended (Verdict.Is ((cmp_row o).result (operand vs 1) (operand vs 0)))
+move current (Command.Compare o) n vs is = Move.ended (Ok ((cmp_row o).result (operand vs 1) (operand vs 0)))
 
 -- WHAT COMES OF IT in a state
 pub data Run (S : Type 0) : Type 0 where
@@ -61,13 +58,13 @@ abbrev pub push_value : {S : Type 0} → List ℤ → List ℤ → Outcome S ℤ
 push_value vs is (ok z st) = Run.going (z ∷ vs) is st
 push_value vs is (err r st) = Run.stopped (err r st)
 
-abbrev pub concluded : {S : Type 0} → Verdict → S → Outcome S Bool
-concluded (Verdict.Is v) st = ok v st
-concluded (Verdict.Refused r) st = err r st
+abbrev pub concluded : {S : Type 0} → Result Bool Refusal → S → Outcome S Bool
+concluded (Ok v) st = ok v st
+concluded (Err r) st = err r st
 
 abbrev pub moved : {S : Type 0} → Terminals S → Env → S → Move → Run S
 moved t env st (Move.on vs is) = Run.going vs is st
-moved t env st (Move.look l i vs is) = push_value vs is (looked_up t env l (some i) st)
+moved t env st (Move.look l i vs is) = push_value vs is (looked_up t env l (Some i) st)
 moved t env st (Move.ask key time vs is) = push_value vs is (t.oracle key time st)
 moved t env st (Move.ended v) = Run.stopped (concluded v st)
 

@@ -1,36 +1,45 @@
 -- The operands that wait as the code holds them, in two arrays, and what a command does with them: that of Run.antt.
-use Rattle.std.specs.Prelude.{ℕ, ◌+◌, ◌<◌, true, ◌⊎◌, ◌≡◌, List, ℤ, pos, length, get_or, take, drop}
-use Rattle.index64.specs.Steps.{stepped}
+use Rattle.std.specs.Prelude.{ℕ, ◌+◌, ◌<◌, true, ◌⊎◌, ◌≡◌, List, ℤ, pos, length, get_or, take, drop, refl, Result, Ok, Err}
+use Rattle.std.specs.Coded.{Coded, code_by, coded×, coded_list, coded_ℕ, coded_ℤ}
 use Rattle.slices.specs.Stack.{stack_of}
 use Rattle.slices.specs.Bytes.{bytes_value}
 use Rattle.semantics.specs.declared.Command.{Command}
+use Rattle.semantics.specs.declared.Refusal.{Refusal}
 use Rattle.semantics.specs.Code.{command_row, need_met}
 use Rattle.stacks.specs.Run.{Move, look_at}
 use Rattle.stacks.specs.declared.Effect.{Effect}
-use Rattle.stacks.specs.declared.Turn.{Turn}
 
--- the first n of an array, the last one first
+-- operands that wait, the last one first, and for how many there is room
+pub record Waiting : Type 0 where
+  pub operands : List ℤ
+  pub room : ℕ
+
+abbrev pub waiting_code : Coded Waiting
+waiting_code =
+    code_by (List ℤ × ℕ) (coded× (coded_list coded_ℤ) coded_ℕ) (λ w. (w.operands, w.room)) (λ p. record { operands = p.0; room = p.1 }) (λ _. refl)
+
+-- the first n of an array
 abbrev pub waiting : List ℤ → ℕ → List ℤ
 waiting operands n = stack_of (λ k. get_or operands k (pos 0)) n
 
-abbrev pub move_of : List ℤ → List ℤ → Turn → Move
-move_of values indexes (Turn.On v i) = Move.on (waiting values v) (waiting indexes i)
-move_of values indexes (Turn.Ended v) = Move.ended v
-
 -- what a command may go by: its operands wait, and its result has room
-pub record Ready (c : Command) (v i : ℕ) (values indexes : List ℤ) : Type 0 where
-  pub met : need_met (command_row c) v i ≡ true
-  pub values_fit : v + i < length values
-  pub indexes_fit : v + i < length indexes
+pub record Ready (c : Command) (values indexes : Waiting) : Type 0 where
+  pub met : need_met (command_row c) (length values.operands) (length indexes.operands) ≡ true
+  pub values_fit : length values.operands + length indexes.operands < values.room
+  pub indexes_fit : length values.operands + length indexes.operands < indexes.room
 
 -- what a command with the operand bytes n does: the value of a lookup or of an oracle terminal is still to be pushed
-abbrev pub effect_of : List ℕ → List ℤ → ℕ → List ℤ → ℕ → Effect → Move
-effect_of n values v indexes i (Effect.Turned t) = move_of values indexes t
-effect_of n values v indexes i (Effect.Amount list step rest) = look_at list (waiting values v) (waiting indexes rest) (stepped step)
-effect_of n values v indexes i Effect.Oracle = Move.ask (take 32 n) (bytes_value (drop 32 n)) (waiting values v) (waiting indexes i)
+abbrev pub effect_of : List ℕ → List ℤ → List ℤ → Result Effect Refusal → Move
+effect_of n vs is (Ok Effect.Nothing) = Move.on vs is
+effect_of n vs is (Ok (Effect.Amount list step)) = look_at list vs is step
+effect_of n vs is (Ok Effect.Oracle) = Move.ask (take 32 n) (bytes_value (drop 32 n)) vs is
+effect_of n vs is (Ok (Effect.Verdict v)) = Move.ended (Ok v)
+effect_of n vs is (Err r) = Move.ended (Err r)
 
--- an oracle terminal is still to be pushed only if the command is one
-abbrev pub OracleOnly : Command → Effect → Type 0
-OracleOnly c (Effect.Turned t) = Unit {0}
-OracleOnly c (Effect.Amount list step rest) = Unit {0}
-OracleOnly c Effect.Oracle = (c ≡ Command.PriceOracle1) ⊎ (c ≡ Command.PriceOracle1W)
+-- a price is still to be pushed only if the command is an oracle terminal
+abbrev pub OracleOnly : Command → Result Effect Refusal → Type 0
+OracleOnly c (Ok Effect.Oracle) = (c ≡ Command.PriceOracle1) ⊎ (c ≡ Command.PriceOracle1W)
+OracleOnly c (Ok Effect.Nothing) = Unit {0}
+OracleOnly c (Ok (Effect.Amount list step)) = Unit {0}
+OracleOnly c (Ok (Effect.Verdict v)) = Unit {0}
+OracleOnly c (Err r) = Unit {0}

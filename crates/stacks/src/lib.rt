@@ -1,143 +1,130 @@
-// The operands that wait, in two arrays: what the commands do with them.
+// The operands that wait: what the commands do with them.
 #![tactic(auto)]
 
-ghost use Rattle.std.specs.Prelude.{◌≡◌, List, ◌∷◌, ◌+◌, ◌-◌, ◌≤◌, ◌<◌, ℤ, length, take, drop};
-ghost use Rattle.index64.specs.Steps.{stepped};
-ghost use Rattle.semantics.specs.Operations.{bin_row, cmp_row, idx_row, un_row};
+ghost use Rattle.std.specs.Prelude.{◌≡◌, [], ◌∷◌, ◌≤◌, ◌<◌, length};
 ghost use Rattle.semantics.specs.Code.{command_row};
-ghost use Rattle.stacks.specs.Run.{Move, move, on_index, on_value, operand};
-ghost use Rattle.stacks.specs.Stacks.{OracleOnly, Ready, effect_of, move_of, waiting};
+ghost use Rattle.stacks.specs.Run.{move};
+ghost use Rattle.stacks.specs.Stacks.{OracleOnly, Ready, effect_of};
 
-use index64::Step;
-use semantics::{AmountList, BinOp, CmpOp, Command, IdxOp, Refusal, UnOp, Value, Verdict};
+use semantics::{AmountList, Command, Refusal};
+use std::marker::Model;
 
-// What a command leads to: so many values and indexes that wait, or the end of the evaluation.
-#[derive(Clone, Copy)]
-pub enum Turn {
-    On(usize, usize),
-    Ended(Verdict),
+// Operands that wait, the last one on top, in a lent array. No arrayvec: that is cleared when it is made, at each size.
+#[derive(Drop)]
+pub struct Stack<'a> {
+    operands: &'a mut [i64],
+    count: usize,
 }
 
-// What a command does: all of it with the operands that wait, or a value from elsewhere is still to be pushed.
-// That is the amount of a list where an index step led, with so many indexes left, or the price of an oracle terminal.
+// Clauses see the operands, the last one first, and for how many there is room.
+impl<'a> Model for Stack<'a> {
+    ghost use Rattle.std.specs.Prelude.{◌≤◌, length};
+    ghost use Rattle.stacks.specs.Stacks.{Waiting, waiting, waiting_code};
+
+    ghost Value = { Waiting };
+
+    ghost coded = { waiting_code };
+
+    ghost view = { λ s. record { operands = waiting s.operands.now s.count; room = length s.operands.now } };
+
+    ghost invariant = { λ s. s.count ≤ length s.operands.now };
+}
+
+impl<'a> Stack<'a> {
+    pub fn new(operands: &'a mut [i64]) -> Stack<'a>
+        ensures empty { result.operands ≡ [] }
+        ensures room { result.room ≡ length operands.old }
+    {
+        Stack { operands, count: 0 }
+    }
+
+    pub fn push(&mut self, operand: i64)
+        requires { length self.old.operands < self.old.room }
+        ensures operands { self.new.operands ≡ operand ∷ self.old.operands }
+        ensures room { self.new.room ≡ self.old.room }
+    {
+        self.operands[self.count] = operand;
+        self.count += 1;
+    }
+
+    fn pop(&mut self) -> i64
+        requires { 1 ≤ length self.old.operands }
+        ensures operands { result ∷ self.new.operands ≡ self.old.operands }
+        ensures room { self.new.room ≡ self.old.room }
+    {
+        self.count -= 1;
+        self.operands[self.count]
+    }
+}
+
+// All that wait.
+#[derive(Drop)]
+pub struct Operands<'a> {
+    pub values: Stack<'a>,
+    pub indexes: Stack<'a>,
+}
+
+// What is left to do of a command, if it does not end the evaluation by a refusal: nothing; or a value from elsewhere is to be pushed, which is the amount
+// of a list where an index step led, or the price of an oracle terminal; or a comparison ends the evaluation by its verdict.
 #[derive(Clone, Copy)]
 pub enum Effect {
-    Turned(Turn),
-    Amount(AmountList, Step, usize),
+    Nothing,
+    Amount(AmountList, Option<i64>),
     Oracle,
+    Verdict(bool),
 }
 
-// A value, on top of so many.
-pub fn push_value(vals: &mut [i64], v: Value, values: usize, indexes: usize) -> Turn
-    requires { values < length vals.old }
-    ensures { (idxs : List ℤ) → move_of vals.new idxs result ≡ on_value (waiting vals.old values) (waiting idxs indexes) v }
-{
-    match v {
-        Value::Number(z) => {
-            vals[values] = z;
-            Turn::On(values + 1, indexes)
-        }
-        Value::Refused(r) => Turn::Ended(Verdict::Refused(r)),
-    }
-}
-
-// An index, on top of so many.
-fn push_index(idxs: &mut [i64], s: Step, values: usize, indexes: usize) -> Turn
-    requires { indexes < length idxs.old }
-    ensures { (vals : List ℤ) → move_of vals idxs.new result ≡ on_index (waiting vals values) (waiting idxs.old indexes) (stepped s) }
-{
-    match s {
-        Step::Value(z) => {
-            idxs[indexes] = z;
-            Turn::On(values, indexes + 1)
-        }
-        Step::Overflow => Turn::Ended(Verdict::Refused(Refusal::IndexStep)),
-    }
-}
-
-// The last index.
-fn last_index(idxs: &[i64], indexes: usize) -> i64
-    requires { (1 ≤ indexes) × (indexes ≤ length idxs.now) }
-    ensures { result ∷ waiting idxs.now (indexes - 1) ≡ waiting idxs.now indexes }
-{
-    idxs[indexes - 1]
-}
-
-// The two last indexes become one.
-fn step_index(op: IdxOp, idxs: &mut [i64], values: usize, indexes: usize) -> Turn
-    requires { (2 ≤ indexes) × (indexes ≤ length idxs.old) }
-    ensures { (vals : List ℤ) → let is = waiting idxs.old indexes in move_of vals idxs.new result ≡ on_index (waiting vals values) (drop 2 is) ((idx_row op).result (operand is 1) (operand is 0)) }
-{
-    let s = operations::index(op, idxs[indexes - 2], idxs[indexes - 1]);
-    push_index(idxs, s, values, indexes - 2)
-}
-
-// The two last values become one.
-fn step_binary(op: BinOp, vals: &mut [i64], values: usize, indexes: usize) -> Turn
-    requires { (2 ≤ values) × (values ≤ length vals.old) }
-    ensures { (idxs : List ℤ) → let vs = waiting vals.old values in move_of vals.new idxs result ≡ on_value (drop 2 vs) (waiting idxs indexes) ((bin_row op).result (operand vs 1) (operand vs 0)) }
-{
-    let v = operations::binary(op, vals[values - 2], vals[values - 1]);
-    push_value(vals, v, values - 2, indexes)
-}
-
-// The last value becomes another.
-fn step_unary(op: UnOp, vals: &mut [i64], values: usize, indexes: usize) -> Turn
-    requires { (1 ≤ values) × (values ≤ length vals.old) }
-    ensures { (idxs : List ℤ) → let vs = waiting vals.old values in move_of vals.new idxs result ≡ on_value (drop 1 vs) (waiting idxs indexes) ((un_row op).result (operand vs 0)) }
-{
-    let v = operations::unary(op, vals[values - 1]);
-    push_value(vals, v, values - 1, indexes)
-}
-
-// The two last values are compared: the verdict.
-fn step_compare(op: CmpOp, vals: &[i64], values: usize) -> Turn
-    requires { (2 ≤ values) × (values ≤ length vals.now) }
-    ensures { (idxs : List ℤ) → let vs = waiting vals.now values in move_of vals.now idxs result ≡ Move.ended (Verdict.Is ((cmp_row op).result (operand vs 1) (operand vs 0))) }
-{
-    Turn::Ended(Verdict::Is(operations::compare(op, vals[values - 2], vals[values - 1])))
-}
-
-// One command, whose operand bytes stand at `at`. Check refuses code with an unknown one, so that there is none here.
+// One command, by its operand bytes. Check refuses code with an unknown one, so that there is none here.
 pub fn step(
     command: Command,
-    code: &[u8],
-    at: usize,
+    bytes: &[u8],
     current: u64,
-    vals: &mut [i64],
-    idxs: &mut [i64],
-    values: usize,
-    indexes: usize,
-) -> Effect
-    requires { Ready command values indexes vals.old idxs.old × (at + (command_row command).width ≤ length code.now) }
+    operands: &mut Operands<'_>,
+) -> Result<Effect, Refusal>
+    requires ready { Ready command operands.old.values operands.old.indexes }
+    requires bytes { length bytes.now ≡ (command_row command).width }
     ensures oracle_only { OracleOnly command result }
-    ensures result_after { let n = take (command_row command).width (drop at code.now) in effect_of n vals.new values idxs.new indexes result ≡ move current command n (waiting vals.old values) (waiting idxs.old indexes) }
+    ensures result_after { effect_of bytes.now operands.new.values.operands operands.new.indexes.operands result ≡ move current command bytes.now operands.old.values.operands operands.old.indexes.operands }
+    ensures values_room { operands.new.values.room ≡ operands.old.values.room }
+    ensures indexes_room { operands.new.indexes.room ≡ operands.old.indexes.room }
 {
+    let Operands { values, indexes } = operands;
     match command {
-        Command::Unknown => Effect::Turned(Turn::On(values, indexes)),
+        Command::Unknown => {}
         Command::IdxConst => {
-            let n = slices::read_le64(code, at);
-            Effect::Turned(push_index(idxs, index64::from_u64(n), values, indexes))
+            let index = index64::from_u64(slices::read_le64(bytes, 0));
+            indexes.push(index.ok_or(Refusal::IndexStep)?);
         }
         Command::CurrIdx => {
-            Effect::Turned(push_index(idxs, index64::from_u64(current), values, indexes))
+            let index = index64::from_u64(current);
+            indexes.push(index.ok_or(Refusal::IndexStep)?);
         }
-        Command::Index(op) => Effect::Turned(step_index(op, idxs, values, indexes)),
-        Command::Const => {
-            let z = word64::signed(slices::read_le64(code, at));
-            Effect::Turned(push_value(vals, Value::Number(z), values, indexes))
+        Command::Index(op) => {
+            let right = indexes.pop();
+            let left = indexes.pop();
+            let index = operations::index(op, left, right);
+            indexes.push(index.ok_or(Refusal::IndexStep)?);
         }
+        Command::Const => values.push(word64::signed(slices::read_le64(bytes, 0))),
         Command::CurrInputIdx => {
-            Effect::Amount(AmountList::Input, index64::from_u64(current), indexes)
+            return Ok(Effect::Amount(AmountList::Input, index64::from_u64(current)));
         }
-        Command::Lookup(list) => {
-            let i = Step::Value(last_index(idxs, indexes));
-            Effect::Amount(list, i, indexes - 1)
+        Command::Lookup(list) => return Ok(Effect::Amount(list, Some(indexes.pop()))),
+        Command::Binary(op) => {
+            let right = values.pop();
+            let left = values.pop();
+            values.push(operations::binary(op, left, right)?);
         }
-        Command::Binary(op) => Effect::Turned(step_binary(op, vals, values, indexes)),
-        Command::Unary(op) => Effect::Turned(step_unary(op, vals, values, indexes)),
-        Command::PriceOracle1 => Effect::Oracle,
-        Command::PriceOracle1W => Effect::Oracle,
-        Command::Compare(op) => Effect::Turned(step_compare(op, vals, values)),
+        Command::Unary(op) => {
+            let operand = values.pop();
+            values.push(operations::unary(op, operand)?);
+        }
+        Command::PriceOracle1 | Command::PriceOracle1W => return Ok(Effect::Oracle),
+        Command::Compare(op) => {
+            let right = values.pop();
+            let left = values.pop();
+            return Ok(Effect::Verdict(operations::compare(op, left, right)));
+        }
     }
+    Ok(Effect::Nothing)
 }

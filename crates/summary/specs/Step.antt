@@ -1,5 +1,5 @@
 -- What one command makes of the summary that one pass over the commands keeps: one equation over its row.
-use Rattle.std.specs.Prelude.{ℕ, ◌+◌, ◌-◌, ◌*◌, ◌≤◌, ◌<◌, cond, List, [], ◌∷◌, ltb, length, replicate}
+use Rattle.std.specs.Prelude.{ℕ, ◌+◌, ◌-◌, ◌*◌, ◌≤◌, ◌<◌, cond, List, [], ◌∷◌, ltb, length, replicate, Option, Some, None}
 use Rattle.semantics.specs.declared.AmountList.{AmountList}
 use Rattle.semantics.specs.declared.Command.{Command}
 use Rattle.semantics.specs.declared.Terminal.{Terminal}
@@ -80,16 +80,16 @@ made_as Made.value s = Stepped.Onward s
 made_as Made.condition s = Stepped.Compared s
 
 -- its operand bytes are within the code, and its need is met
-abbrev pub stepped_by : CommandRow → ℕ → Summary → Stepped
+abbrev pub stepped_by : CommandRow → ℕ → Summary → Option Stepped
 stepped_by r length s =
-    cond (ltb (length - s.bytes - 1) r.width) Stepped.Failed
-    (cond (need_met r s.values s.indexes) (made_as r.makes (next_by r s)) Stepped.Failed)
+    cond (ltb (length - s.bytes - 1) r.width) None
+    (cond (need_met r s.values s.indexes) (Some (made_as r.makes (next_by r s))) None)
 
 -- a row of which no more is said than a step asks: its tokens are so many
 abbrev pub counting : ℕ → ℕ → ℕ → Made → ℕ → List Terminal → List AmountList → CommandRow
 counting width values indexes makes tokens terminals lists = row 0 width values indexes makes [] (λ n. replicate tokens (op 0)) terminals lists
 
-abbrev pub stepped : Command → ℕ → Summary → Stepped
+abbrev pub stepped : Command → ℕ → Summary → Option Stepped
 stepped c length s = stepped_by (command_row c) length s
 
 -- the most tokens that a command has

@@ -10,7 +10,7 @@ ghost use Rattle.summary.specs.Step.{Inside, counted, counting, larger, most_tok
 use semantics::Terminal;
 
 // What is known of the oracle rule after some terminals.
-#[derive(Clone, Copy)]
+#[derive(Clone, Copy, Debug, PartialEq, Eq)]
 pub enum Rule {
     Unseen,
     Kept,
@@ -20,8 +20,8 @@ pub enum Rule {
 
 // What one pass over the commands keeps: how many bytes they have, how many values, indexes and conditions wait, how many tokens, oracle terminals and
 // lookups there were, the oracle rule, and the greatest number of values and indexes that ever waited.
-// An enum field is copied to a local before it is used. Tokens are 32 bits wide, or the compiler would pair them with the bytes in a vector register.
-#[derive(Clone, Copy)]
+// Tokens are 32 bits wide, or the compiler would pair them with the bytes in a vector register.
+#[derive(Clone, Copy, Debug, PartialEq, Eq)]
 pub struct Summary {
     pub bytes: usize,
     pub values: usize,
@@ -34,12 +34,11 @@ pub struct Summary {
     pub most: usize,
 }
 
-// A summary with one command more, which a comparison ends; or that the command's operand bytes are not all there or its need is not met.
-#[derive(Clone, Copy)]
+// A summary with one command more, which a comparison ends. There is none where the command's operand bytes are not all there or its need is not met.
+#[derive(Clone, Copy, Debug, PartialEq, Eq)]
 pub enum Stepped {
     Onward(Summary),
     Compared(Summary),
-    Failed,
 }
 
 // How many oracle terminals a terminal is.
@@ -47,8 +46,7 @@ fn oracles_of(terminal: Terminal) -> usize
     ensures { result ≡ counted 0 terminal }
 {
     match terminal {
-        Terminal::PriceOracle1 => 1,
-        Terminal::PriceOracle1W => 1,
+        Terminal::PriceOracle1 | Terminal::PriceOracle1W => 1,
         Terminal::Other => 0,
     }
 }
@@ -57,19 +55,13 @@ fn oracles_of(terminal: Terminal) -> usize
 fn next_rule(rule: Rule, terminal: Terminal) -> Rule
     ensures { result ≡ ruled rule terminal }
 {
-    match rule {
-        Rule::Unseen => match terminal {
-            Terminal::PriceOracle1 => Rule::Kept,
-            Terminal::PriceOracle1W => Rule::WFirst,
-            Terminal::Other => Rule::Kept,
-        },
-        Rule::Kept => match terminal {
-            Terminal::PriceOracle1 => Rule::Missing,
-            Terminal::PriceOracle1W => Rule::Kept,
-            Terminal::Other => Rule::Kept,
-        },
-        Rule::WFirst => Rule::WFirst,
-        Rule::Missing => Rule::Missing,
+    match (rule, terminal) {
+        (Rule::Unseen, Terminal::PriceOracle1W) => Rule::WFirst,
+        (Rule::Unseen, Terminal::PriceOracle1 | Terminal::Other) => Rule::Kept,
+        (Rule::Kept, Terminal::PriceOracle1) => Rule::Missing,
+        (Rule::Kept, Terminal::PriceOracle1W | Terminal::Other) => Rule::Kept,
+        (Rule::WFirst, _) => Rule::WFirst,
+        (Rule::Missing, _) => Rule::Missing,
     }
 }
 
@@ -81,137 +73,117 @@ fn raised(taken: usize, most: usize, waiting: usize) -> usize
     if taken != 0 {
         return most;
     }
-    if most < waiting { waiting } else { most }
+    most.max(waiting)
 }
 
 // A command that makes an index.
-fn index(width: usize, taken: usize, tokens: u32, length: usize, s: Summary) -> Stepped
+fn index(width: usize, taken: usize, tokens: u32, length: usize, s: Summary) -> Option<Stepped>
     requires { (tokens ≤ most_tokens) × Inside length s }
     ensures { result ≡ stepped_by (counting width 0 taken Made.index tokens [] []) length s }
 {
     if length - s.bytes - 1 < width {
-        return Stepped::Failed;
+        return None;
     }
     if s.indexes < taken {
-        return Stepped::Failed;
+        return None;
     }
     let indexes = s.indexes - taken + 1;
-    let rule = s.rule;
-    Stepped::Onward(Summary {
+    Some(Stepped::Onward(Summary {
         bytes: s.bytes + 1 + width,
-        values: s.values,
         indexes,
-        conditions: s.conditions,
         tokens: s.tokens + tokens,
-        oracles: s.oracles,
-        rule,
-        lookups: s.lookups,
         most: raised(taken, s.most, s.values + indexes),
-    })
+        ..s
+    }))
 }
 
 // A value terminal that takes nothing and is no lookup.
-fn leaf(width: usize, tokens: u32, terminal: Terminal, length: usize, s: Summary) -> Stepped
+fn leaf(width: usize, tokens: u32, terminal: Terminal, length: usize, s: Summary) -> Option<Stepped>
     requires { (tokens ≤ most_tokens) × Inside length s }
     ensures { result ≡ stepped_by (counting width 0 0 Made.value tokens (terminal ∷ []) []) length s }
 {
     if length - s.bytes - 1 < width {
-        return Stepped::Failed;
+        return None;
     }
     if s.indexes != 0 {
-        return Stepped::Failed;
+        return None;
     }
     let values = s.values + 1;
-    let rule = s.rule;
-    Stepped::Onward(Summary {
+    Some(Stepped::Onward(Summary {
         bytes: s.bytes + 1 + width,
         values,
-        indexes: s.indexes,
-        conditions: s.conditions,
         tokens: s.tokens + tokens,
         oracles: s.oracles + oracles_of(terminal),
-        rule: next_rule(rule, terminal),
-        lookups: s.lookups,
+        rule: next_rule(s.rule, terminal),
         most: raised(0, s.most, values),
-    })
+        ..s
+    }))
 }
 
 // An amount of a list, at so many indexes: that of the current input takes none.
-fn lookup(taken: usize, tokens: u32, length: usize, s: Summary) -> Stepped
+fn lookup(taken: usize, tokens: u32, length: usize, s: Summary) -> Option<Stepped>
     requires { (tokens ≤ most_tokens) × Inside length s }
     ensures { result ≡ stepped_by (counting 0 0 taken Made.value tokens other (AmountList.Input ∷ [])) length s }
 {
     if s.indexes != taken {
-        return Stepped::Failed;
+        return None;
     }
     let values = s.values + 1;
-    let rule = s.rule;
-    Stepped::Onward(Summary {
+    Some(Stepped::Onward(Summary {
         bytes: s.bytes + 1,
         values,
         indexes: 0,
-        conditions: s.conditions,
         tokens: s.tokens + tokens,
-        oracles: s.oracles,
-        rule: next_rule(rule, Terminal::Other),
+        rule: next_rule(s.rule, Terminal::Other),
         lookups: s.lookups + 1,
         most: raised(taken, s.most, values),
-    })
+        ..s
+    }))
 }
 
 // An operation on one or two values.
-fn operation(taken: usize, tokens: u32, length: usize, s: Summary) -> Stepped
+fn operation(taken: usize, tokens: u32, length: usize, s: Summary) -> Option<Stepped>
     requires { (1 ≤ taken) × (tokens ≤ most_tokens) × Inside length s }
     ensures { result ≡ stepped_by (counting 0 taken 0 Made.value tokens [] []) length s }
 {
     if s.values < taken {
-        return Stepped::Failed;
+        return None;
     }
     if s.indexes != 0 {
-        return Stepped::Failed;
+        return None;
     }
-    let rule = s.rule;
-    Stepped::Onward(Summary {
+    Some(Stepped::Onward(Summary {
         bytes: s.bytes + 1,
         values: s.values - taken + 1,
-        indexes: s.indexes,
-        conditions: s.conditions,
         tokens: s.tokens + tokens,
-        oracles: s.oracles,
-        rule,
-        lookups: s.lookups,
-        most: s.most,
-    })
+        ..s
+    }))
 }
 
 // A comparison of two values, which is a condition.
-fn comparison(tokens: u32, length: usize, s: Summary) -> Stepped
+fn comparison(tokens: u32, length: usize, s: Summary) -> Option<Stepped>
     requires { (tokens ≤ most_tokens) × Inside length s }
     ensures { result ≡ stepped_by (counting 0 2 0 Made.condition tokens [] []) length s }
 {
     if s.values != 2 {
-        return Stepped::Failed;
+        return None;
     }
     if s.indexes != 0 {
-        return Stepped::Failed;
+        return None;
     }
-    let rule = s.rule;
-    Stepped::Compared(Summary {
+    Some(Stepped::Compared(Summary {
         bytes: s.bytes + 1,
         values: 0,
-        indexes: s.indexes,
         conditions: s.conditions + 1,
         tokens: s.tokens + tokens,
-        oracles: s.oracles,
-        rule,
-        lookups: s.lookups,
-        most: s.most,
-    })
+        ..s
+    }))
 }
 
 // The command of a byte, in code of so many bytes. An arm is a row of the table: operand bytes, what is taken, tokens. One number an arm: the compiler would
 // make a range test of adjacent ones.
-pub fn step(byte: u8, length: usize, s: Summary) -> Stepped
+#[tactic(auto, unfolding(semantics::specs::Code::command_of))]
+pub fn step(byte: u8, length: usize, s: Summary) -> Option<Stepped>
     requires { Inside length s }
     ensures { result ≡ stepped (command_of byte) length s }
 {
@@ -245,6 +217,6 @@ pub fn step(byte: u8, length: usize, s: Summary) -> Stepped
         50 => comparison(1, length, s),
         51 => comparison(1, length, s),
         52 => comparison(1, length, s),
-        _ => Stepped::Failed,
+        _ => None,
     }
 }

@@ -2,22 +2,14 @@
 ghost use Rattle.std.specs.Prelude.{◌≡◌};
 ghost use Rattle.answers.specs.Answers.{decode_answer};
 ghost use Rattle.semantics.specs.Decode.{decoded};
-ghost use Rattle.cases.specs.Known.{fill, fresh};
 ghost use Rattle.token_cases.specs.Decoding.{decode_agrees, decode_lent};
 
 use answers::DecodeAnswer;
-use cases::{FILL, halves, knows, part, word, words};
+use cases::{FILL, filled, knows, nth, part, read_numbers};
 
 const ROOM: usize = 9300;
 
 const RECORDS: usize = 1100;
-
-// The buffer for code, as it is before the call.
-fn filled() -> [u8; ROOM]
-    ensures { result ≡ fresh 9300 fill }
-{
-    [FILL; ROOM]
-}
 
 // The call, with the parts of the case lent.
 fn call(body: &[u8], code: &mut [u8]) -> DecodeAnswer
@@ -26,17 +18,18 @@ fn call(body: &[u8], code: &mut [u8]) -> DecodeAnswer
 {
     let mut number_slots = [0u64; RECORDS];
     let mut place_slots = [0u32; RECORDS];
-    let numbers = words(body, 1, &mut number_slots);
-    let places = halves(body, 2, &mut place_slots);
+    let numbers = read_numbers(body, 1, &mut number_slots);
+    let places = read_numbers(body, 2, &mut place_slots);
     covenant::covenant_decode(part(body, 0), numbers, places, part(body, 3), code)
 }
 
+// One of three alike: `cases::knows` says why they are no function of the call.
 pub fn agrees(body: &[u8]) -> bool
     ensures { result ≡ decode_agrees body.now }
 {
-    let mut code = filled();
+    let mut code: [u8; ROOM] = filled(FILL);
     let known = part(body, 4);
-    let room = word(known, 0) as usize;
+    let room = nth::<u64>(known, 0) as usize;
     if ROOM < room {
         return false;
     }

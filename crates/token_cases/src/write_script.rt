@@ -3,20 +3,12 @@ ghost use Rattle.std.specs.Prelude.{◌≡◌};
 ghost use Rattle.answers.specs.Answers.{script_answer};
 ghost use Rattle.script.specs.WriteScript.{wrote_script};
 ghost use Rattle.cases.specs.Cases.{part_of};
-ghost use Rattle.cases.specs.Known.{fill, fresh};
 ghost use Rattle.token_cases.specs.ScriptWriting.{script_agrees};
 
 use answers::ScriptAnswer;
-use cases::{FILL, knows, part, word};
+use cases::{FILL, filled, knows, nth, part};
 
 const ROOM: usize = 5200;
-
-// The buffer for the script, as it is before the call.
-fn filled() -> [u8; ROOM]
-    ensures { result ≡ fresh 5200 fill }
-{
-    [FILL; ROOM]
-}
 
 // The call, with the code of the case.
 fn call(body: &[u8], script: &mut [u8]) -> ScriptAnswer
@@ -26,12 +18,13 @@ fn call(body: &[u8], script: &mut [u8]) -> ScriptAnswer
     covenant::covenant_write_script(part(body, 0), script)
 }
 
+// One of three alike: `cases::knows` says why they are no function of the call.
 pub fn agrees(body: &[u8]) -> bool
     ensures { result ≡ script_agrees body.now }
 {
-    let mut script = filled();
+    let mut script: [u8; ROOM] = filled(FILL);
     let known = part(body, 1);
-    let room = word(known, 0) as usize;
+    let room = nth::<u64>(known, 0) as usize;
     if ROOM < room {
         return false;
     }

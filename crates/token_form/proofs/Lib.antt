@@ -3,5 +3,4 @@ pub mod Over
 pub mod Operands
 pub mod Rows
 pub mod Keyed
-pub mod Singles
 pub mod Storing

@@ -2,10 +2,12 @@
 use Prim.Native.Nat.{ℕ, suc, ◌+◌, ◌≤◌, ◌<◌}
 use native.Mathlib.Omega.{arith}
 use native.Mathlib.Numerals.{add-one}
-use mathlib.Core.Path.{◌≡◌, sym, ◌∙◌, ap, ap₂}
+use mathlib.Core.Path.{◌≡◌, refl, sym, ◌∙◌, ap, ap₂}
 use mathlib.Core.List.{List, [], ◌∷◌, ◌++◌, map, append_assoc}
 use lib.ListN.{get_or-map, length, take, drop, get_or, set, length-append, length-map}
-use lib.Seq.{get_or-take, take-suc, drop-cons, set_at, take_all, length-take-le}
+use lib.Seq.{take-suc, drop-cons, set_at, take_all, length-take-le}
+use Rattle.token_table.specs.declared.TokenKind.{TokenKind}
+use Rattle.token_table.specs.Kinds.{number}
 use Rattle.slices.specs.Bytes.{over}
 
 -- a loop that writes the elements of vs, one a turn
@@ -22,16 +24,23 @@ over-set vs xs now j v d h k e e' =
     ∙ set_at ws _ _ a j here
     ∙ sym (rw (add-one j, take-suc vs j d h) (append_assoc ws (a ∷ []) _ ∙ ap (λ (n : ℕ). ws ++ a ∷ drop n xs) next))
 
--- where they are made of the first count elements of a row
-module _ (f : ℕ → ℕ) (row : List ℕ) (count : ℕ) (fits : count ≤ length row) where
-  made : length (map f (take count row)) ≡ count
-  made = length-map (take count row) f ∙ length-take-le count row fits
+-- where they are made of the kinds of a row
+module _ (f : ℕ → ℕ) (row : List TokenKind) where
+  abbrev pub made : List ℕ
+  made = map f (map number row)
 
-  pub over-turn : (xs now : List ℕ) (j v : ℕ) → j < count → count ≤ length xs → now ≡ over (take j (map f (take count row))) xs → v ≡ f (get_or row j 0)
-      → set now j v ≡ over (take (j + 1) (map f (take count row))) xs
-  over-turn xs now j v h k e q =
-      over-set (map f (take count row)) xs now j v (f 0) (omega (arith, made)) (omega (arith, made)) e
-      (q ∙ sym (get_or-map f (take count row) j 0 ∙ ap f (get_or-take count row j 0 h)))
+  made_long : length made ≡ length row
+  made_long = length-map (map number row) f ∙ length-map row number
 
-  pub over-end : (xs now : List ℕ) (j : ℕ) → count ≤ j → now ≡ over (take j (map f (take count row))) xs → now ≡ over (map f (take count row)) xs
-  over-end xs now j h e = rw (take_all j (map f (take count row)) (omega (arith, made))) at e
+  pub over_turn : (xs now : List ℕ) (j v : ℕ) (d : TokenKind) → j < length row → length row ≤ length xs → now ≡ over (take j made) xs → v ≡ f (number (get_or row j d))
+      → set now j v ≡ over (take (j + 1) made) xs
+  over_turn xs now j v d h k e q =
+      over-set made xs now j v (f (number d)) (omega (arith, made_long)) (omega (arith, made_long)) e
+      (q ∙ sym (get_or-map f (map number row) j (number d) ∙ ap f (get_or-map number row j d)))
+
+  pub over_end : (xs now : List ℕ) (j : ℕ) → length row ≤ j → now ≡ over (take j made) xs → now ≡ over made xs
+  over_end xs now j h e = rw (take_all j made (omega (arith, made_long))) at e
+
+pub same_row : (row : List ℕ) → map (λ k. k) row ≡ row
+same_row [] = refl
+same_row (k ∷ row) = ap (λ ks. k ∷ ks) (same_row row)

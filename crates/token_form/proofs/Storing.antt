@@ -1,11 +1,12 @@
 -- The records of one command, and of all commands up to a position of the code.
-use Prim.Native.Nat.{ℕ, ◌+◌, ◌-◌, ◌≤◌, ◌<◌}
+use mir.Val.{bool_byte}
+use Prim.Native.Nat.{ℕ, zero, suc, ◌+◌, ◌-◌, ◌≤◌, ◌<◌}
 use mathlib.Core.Bool.{Bool, true, false}
 use mathlib.Core.Path.{◌≡◌, refl, sym, ap, ◌∙◌}
-use mathlib.Core.List.{List, [], ◌++◌, map, map-append}
+use mathlib.Core.List.{List, [], ◌∷◌, ◌++◌, map, map-append}
 use native.Mathlib.Omega.{arith}
 use borrow.Rule.Slice.PartMut.{mid_of, put_mid}
-use lib.ListN.{length, get_or, take, length-append, length-map, length-take}
+use lib.ListN.{length, get_or, take, length-append, length-map}
 use Rattle.slices.specs.Bytes.{over}
 use Rattle.semantics.specs.declared.Command.{Command}
 use Rattle.semantics.specs.Code.{known}
@@ -14,8 +15,9 @@ use Rattle.semantics.specs.Parse.{after, command_at}
 use Rattle.semantics.specs.Write.{place_in}
 use Rattle.semantics.proofs.Over.{length_over}
 use Rattle.condition.specs.Walk.{Passed}
-use Rattle.token_table.specs.declared.TokenRow.{TokenRow}
-use Rattle.token_form.specs.Fields.{bit, number_at, payload, place_at}
+use Rattle.token_table.specs.declared.TokenKind.{TokenKind}
+use Rattle.token_table.specs.Kinds.{number}
+use Rattle.token_form.specs.Fields.{number_at, payload, place_at}
 use Rattle.semantics.specs.Parse.{operand_bytes}
 use Rattle.token_table.specs.TokenRows.{tokens_of, token_row}
 use Rattle.forms.specs.Emitted.{emitted}
@@ -23,37 +25,33 @@ use Rattle.forms.proofs.Emitting.{Emitting, all_emitted, none_emitted, one_emitt
 use Rattle.token_form.specs.Storing.{Columns, Room, Stored, columns_of}
 use Rattle.slices.proofs.Front.{over-lent, over-rest}
 use Rattle.token_form.proofs.Keyed.{place_for, tokens_places}
-use Rattle.token_form.proofs.Rows.{tokens-kinds, tokens-length, tokens_numbers}
+use Rattle.token_form.proofs.Rows.{tokens-kinds, tokens_numbers}
 
 -- ---- one command, of which `records` is the number of tokens
 
-module _ (c : Command) (k : known c ≡ true) (n : List ℕ) (marked : Bool) (own : TokenRow) (is : own ≡ token_row c) (records : ℕ) (counted : records ≡ own.count + bit marked) where
+module _ (c : Command) (k : known c ≡ true) (n : List ℕ) (marked : Bool) (own : List TokenKind) (is : map number own ≡ token_row c) (records : ℕ)
+    (counted : records ≡ length own - 1 + bool_byte marked) where
   abbrev kinds : List ℕ
-  kinds = take records own.kinds
+  kinds = map number (take records own)
 
-  pub records_are : records ≡ length (tokens_of c n marked)
-  records_are = counted ∙ ap (λ (r : TokenRow). r.count + bit marked) is ∙ sym (tokens-length c k n marked)
+  long : length own ≡ length (token_row c)
+  long = sym (length-map own number) ∙ ap length is
 
   kinds_are : kinds ≡ map (λ t. t.kind) (tokens_of c n marked)
-  kinds_are = rw (counted, is) (tokens-kinds c k n marked)
+  kinds_are = map_take records own ∙ rw (is, counted, long) (tokens-kinds c k n marked)
+    where
+      map_take : (i : ℕ) (row : List TokenKind) → map number (take i row) ≡ take i (map number row)
+      map_take zero row = refl
+      map_take (suc i) [] = refl
+      map_take (suc i) (x ∷ row) = ap (λ ks. number x ∷ ks) (map_take i row)
 
-  pub row_asks : (r : Columns) → Room (tokens_of c n marked) r
-      → (records ≤ length own.kinds) × (records ≤ length r.kinds) × (records ≤ length r.numbers) × (records ≤ length r.places)
-  row_asks r room =
-      let l = ap length kinds_are ∙ length-map (tokens_of c n marked) (λ t. t.kind) in (
-        omega (arith, simp length-take at l, records_are),
-        omega (arith, records_are, room.kinds),
-        omega (arith, records_are, room.numbers),
-        omega (arith, records_are, room.places),
-      )
-
-  pub row-leaves : (number bits place : ℕ) (ks : List (List ℕ)) (old new : Columns) → (number ≡ (payload c n).number) × (bits ≡ (payload c n).bits)
+  pub row_leaves : (number bits place : ℕ) (ks : List (List ℕ)) (old new : Columns) → (number ≡ (payload c n).number) × (bits ≡ (payload c n).bits)
       → place ≡ place_for c n ks
       → new.kinds ≡ over kinds old.kinds
       → new.numbers ≡ over (map (number_at number bits) kinds) old.numbers
       → new.places ≡ over (map (place_at place) kinds) old.places
       → Stored (tokens_of c n marked) ks old new
-  row-leaves number bits place ks old new e p x y z =
+  row_leaves number bits place ks old new e p x y z =
       record {
         kinds = rw kinds_are at x;
         numbers = rw (kinds_are, e.0, e.1, tokens_numbers c k n marked) at y;
@@ -137,8 +135,8 @@ module _ (code : List ℕ) (marks : List Bool) (ks : List (List ℕ)) (old now :
         columns_of (mid_of n (length now.kinds - n) now.kinds) (mid_of n (length now.numbers - n) now.numbers)
         (mid_of n (length now.places - n) now.places)
 
-    pub room-left : Room all old → Room tokens_here lent
-    room-left room =
+    pub room_left : Room all old → Room tokens_here lent
+    room_left room =
         let w = g.written in
         record {
           kinds = over-rest (map (λ t. t.kind) g.done) old.kinds now.kinds n _ kinds-length w.kinds (omega (arith, more_tokens, room.kinds));

@@ -1,13 +1,9 @@
 -- The fields of the records of a command's tokens: by its operand bytes, and by the kind.
-use Rattle.std.specs.Prelude.{ℕ, ◌-◌, ◌<◌, ◌≤◌, Bool, cond, false, ◌≡◌, List, [], ◌∷◌, eqb, drop}
+use Rattle.std.specs.Prelude.{ℕ, ◌-◌, cond, false, ◌≡◌, List, [], ◌∷◌, eqb, drop}
 use Rattle.slices.specs.Bytes.{bytes_value}
+use Rattle.token_table.specs.Kinds.{has_number}
 use Rattle.semantics.specs.declared.Command.{Command}
 use Rattle.semantics.specs.Code.{Made, command_row}
-use Rattle.semantics.specs.Operations.{op}
-
--- the tokens that a mark adds
-abbrev pub bit : Bool → ℕ
-bit b = cond b 1 0
 
 -- the number and the place of a record, by its kind: `number` is that of a Num, `bits` that of a Bytes8
 abbrev pub number_at : ℕ → ℕ → ℕ → ℕ
@@ -31,8 +27,8 @@ payload_of Made.condition width n = record { number = 1; bits = 0 }
 abbrev pub payload : Command → List ℕ → Payload
 payload c n = payload_of (command_row c).makes (command_row c).width n
 
--- the kind of a command's only token: one that carries nothing, or the number of eight operand bytes; of 0 nothing is said
+-- the kind of a command's only token: a Num or a Bytes8 with the number of eight operand bytes, or one that carries nothing
 pub record Single (c : Command) (kind : ℕ) : Type 0 where
-  pub plain : 2 < kind → ((command_row c).width ≡ 0) × (eqb kind 3 ≡ false) × ((n : List ℕ) → (command_row c).tokens n ≡ op kind ∷ [])
-  pub numbered : 0 < kind → kind ≤ 2
-      → ((command_row c).width ≡ 8) × (eqb kind 3 ≡ false) × ((n : List ℕ) → (command_row c).tokens n ≡ record { kind = kind; number = bytes_value n; key = [] } ∷ [])
+  pub width : (command_row c).width ≡ cond (has_number kind) 8 0
+  pub keyless : eqb kind 3 ≡ false
+  pub tokens : (n : List ℕ) → (command_row c).tokens n ≡ record { kind = kind; number = cond (has_number kind) (bytes_value n) 0; key = [] } ∷ []

@@ -1,9 +1,8 @@
 -- The token form, command by command: the tokens that a command adds, and the table of their kinds.
-use Rattle.std.specs.Prelude.{ℕ, Bool, true, cond, List, [], ◌∷◌, ◌++◌, map, length, take}
+use Rattle.std.specs.Prelude.{ℕ, Bool, true, cond, List, [], ◌∷◌, ◌++◌, map}
 use Rattle.semantics.specs.declared.Command.{Command}
 use Rattle.semantics.specs.Code.{command_row}
 use Rattle.semantics.specs.Operations.{Token, op}
-use Rattle.token_table.specs.declared.TokenRow.{TokenRow}
 
 -- SCRIPTNUMTOLE64 follows a command that is marked: one that ends the left operand of Mul or Div
 abbrev pub converted : Bool → List Token
@@ -13,9 +12,6 @@ converted marked = cond marked (op 7 ∷ []) []
 abbrev pub tokens_of : Command → List ℕ → Bool → List Token
 tokens_of c n marked = (command_row c).tokens n ++ converted marked
 
--- a row of the table: the number of a command's own tokens, and their kinds with that of SCRIPTNUMTOLE64 after them
-abbrev zeros : List ℕ
-zeros = 0 ∷ 0 ∷ 0 ∷ 0 ∷ 0 ∷ 0 ∷ 0 ∷ 0 ∷ 0 ∷ 0 ∷ 0 ∷ 0 ∷ 0 ∷ []
-
-abbrev pub token_row : Command → TokenRow
-token_row c = record { count = length ((command_row c).tokens []); kinds = take 14 (map (λ t. t.kind) (tokens_of c [] true) ++ zeros) }
+-- a row of the table: the kinds of a command's own tokens with that of SCRIPTNUMTOLE64 after them
+abbrev pub token_row : Command → List ℕ
+token_row c = map (λ t. t.kind) (tokens_of c [] true)

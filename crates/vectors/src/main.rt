@@ -2,38 +2,110 @@
 // the first case that differs.
 #![tactic(auto)]
 
+ghost use Rattle.std.specs.Prelude.{IfSome, slice_index};
 ghost use Rattle.std.specs.Io.{ReadsAtMost};
-ghost use Rattle.vectors.specs.Agreement.{Replayed};
+ghost use Rattle.vectors.specs.Agreement.{Decodes, Replayed, agreed, number_of};
 
 use anyhow::{Context, Result};
-use cases::{between, number};
-use std::{fs, io};
+use cases::nth;
+use std::{fmt, fs, io};
 
 // The most bytes that a case may have.
 const ROOM: usize = 65536;
 
-// What came of reading and replaying the next case.
+// The call that a case is of.
 #[derive(Clone, Copy)]
-enum Outcome {
-    Agrees(u8),
-    Differs(u8),
-    End,
+enum Call {
+    Check,
+    Evaluate,
+    Write,
+    Decode,
+    WriteScript,
 }
 
-fn agrees(call: u8, body: &[u8]) -> bool
-    ensures { Replayed call body.now result }
-{
-    match call {
-        1 => condition_cases::check::agrees(body),
-        2 => condition_cases::evaluate::agrees(body),
-        3 => token_cases::write::agrees(body),
-        4 => token_cases::decode::agrees(body),
-        5 => token_cases::write_script::agrees(body),
-        _ => false,
+const CALLS: [Call; 5] = [
+    Call::Check,
+    Call::Evaluate,
+    Call::Write,
+    Call::Decode,
+    Call::WriteScript,
+];
+
+// A number that is no call's.
+#[derive(Clone, Copy)]
+struct UnknownCall(u8);
+
+impl Call {
+    fn agrees(self, body: &[u8]) -> bool
+        ensures { Replayed (number_of self) body.now result }
+    {
+        match self {
+            Call::Check => condition_cases::check::agrees(body),
+            Call::Evaluate => condition_cases::evaluate::agrees(body),
+            Call::Write => token_cases::write::agrees(body),
+            Call::Decode => token_cases::decode::agrees(body),
+            Call::WriteScript => token_cases::write_script::agrees(body),
+        }
     }
 }
 
-// Reads until the buffer is full or the file ends; how many bytes it read.
+impl TryFrom<u8> for Call {
+    type Error = UnknownCall;
+
+    ghost try_from_gives = { Decodes };
+
+    fn try_from(number: u8) -> std::result::Result<Self, UnknownCall> {
+        match number {
+            1 => Ok(Call::Check),
+            2 => Ok(Call::Evaluate),
+            3 => Ok(Call::Write),
+            4 => Ok(Call::Decode),
+            5 => Ok(Call::WriteScript),
+            _ => Err(UnknownCall(number)),
+        }
+    }
+}
+
+impl fmt::Display for Call {
+    fn fmt<W: fmt::Write>(&self, f: &mut fmt::Formatter<W>) -> fmt::Result {
+        f.pad(match self {
+            Call::Check => "Check",
+            Call::Evaluate => "Evaluate",
+            Call::Write => "Write",
+            Call::Decode => "Decode",
+            Call::WriteScript => "Script",
+        })
+    }
+}
+
+impl fmt::Display for UnknownCall {
+    fn fmt<W: fmt::Write>(&self, f: &mut fmt::Formatter<W>) -> fmt::Result {
+        f.pad("no call")
+    }
+}
+
+// What came of a case.
+#[derive(Clone, Copy)]
+enum Outcome {
+    Agrees(Call),
+    Differs(Call),
+    Unknown(UnknownCall),
+}
+
+// How many cases of each call were replayed.
+#[derive(Drop)]
+struct Tally([u64; 5]);
+
+impl Tally {
+    // One more; how many there are then.
+    fn count(&mut self, call: Call) -> u64 {
+        let place = call as usize;
+        self.0[place] = self.0[place].wrapping_add(1);
+        self.0[place]
+    }
+}
+
+// Reads until the buffer is full or the file ends; how many bytes it read. Only the file says how far a read comes, so that no iterator counts them.
 fn read_full(file: &mut impl io::Read, bytes: &mut [u8]) -> io::Result<usize>
     ensures { ReadsAtMost result bytes.new }
 {
@@ -48,87 +120,52 @@ fn read_full(file: &mut impl io::Read, bytes: &mut [u8]) -> io::Result<usize>
     Ok(n)
 }
 
-// Reads n bytes of the next case, if there is room, and says whether they came.
-fn load(file: &mut impl io::Read, body: &mut [u8], n: usize) -> io::Result<bool> {
-    if body.len() < n {
-        return Ok(false);
-    }
-    let read = read_full(file, &mut body[..n])?;
-    Ok(read == n)
+// A case begins with the number of its call; there is none in no bytes.
+fn replay(body: &[u8]) -> Option<Outcome>
+    ensures { IfSome result (λ o. Replayed (slice_index body.now 0) body.now (agreed o)) }
+{
+    let number = *body.first()?;
+    Some(match Call::try_from(number) {
+        Ok(call) if call.agrees(body) => Outcome::Agrees(call),
+        Ok(call) => Outcome::Differs(call),
+        Err(unknown) => Outcome::Unknown(unknown),
+    })
 }
 
-fn replay(body: &[u8], n: usize) -> Outcome {
-    if body.len() < n {
-        return Outcome::End;
-    }
-    if n == 0 {
-        return Outcome::End;
-    }
-    let call = body[0];
-    if agrees(call, between(body, 0, n)) {
-        return Outcome::Agrees(call);
-    }
-    Outcome::Differs(call)
-}
-
-fn next(file: &mut impl io::Read, body: &mut [u8]) -> io::Result<Outcome> {
+// The next case, of which the file has the length first; none where the file ends, or where there is no room.
+fn next(file: &mut impl io::Read, room: &mut [u8]) -> io::Result<Option<Outcome>> {
     let mut head = [0u8; 4];
     if read_full(file, &mut head)? != 4 {
-        return Ok(Outcome::End);
+        return Ok(None);
     }
-    let n = number(&head, 0) as usize;
-    if load(file, body, n)? {
-        return Ok(replay(body, n));
+    let n = nth::<u32>(&head, 0) as usize;
+    let Some(body) = room.get_mut(..n) else {
+        return Ok(None);
+    };
+    if read_full(file, body)? != n {
+        return Ok(None);
     }
-    Ok(Outcome::End)
+    Ok(replay(body))
 }
 
-fn name(rt: &impl Print, call: u8) -> io::Result<()> {
-    match call {
-        1 => text(rt, "Check    "),
-        2 => text(rt, "Evaluate "),
-        3 => text(rt, "Write    "),
-        4 => text(rt, "Decode   "),
-        5 => text(rt, "Script   "),
-        _ => text(rt, "no call  "),
-    }
-}
-
-fn text(rt: &impl Print, words: &str) -> io::Result<()> {
-    rt.print(words)
-}
-
-fn counted(rt: &impl Print, call: u8, n: u64) -> io::Result<()> {
-    name(rt, call)?;
-    println!(rt; "{n} cases agree")
-}
-
-fn differs(rt: &impl Print, call: u8, n: u64) -> io::Result<()> {
-    name(rt, call)?;
-    println!(rt; " case {n} differs")
-}
-
-fn count(tally: &mut [u64; 6], call: u8) -> u64 {
-    let k = call as usize;
-    if k < 6 {
-        tally[k] = tally[k].wrapping_add(1);
-        return tally[k];
-    }
-    0
-}
-
-// Nothing says that a file ends, so the turns are counted.
-fn turns(rt: &impl Print, file: &mut impl io::Read, tally: &mut [u64; 6]) -> io::Result<()> {
+// Replays all cases, or those up to one that differs. Nothing says that a file ends, so the turns are counted.
+fn turns(rt: &impl Print, file: &mut impl io::Read, tally: &mut Tally) -> io::Result<()> {
     let mut body = [0u8; ROOM];
     for _ in 0..u64::MAX {
         match next(file, &mut body)? {
-            Outcome::Agrees(call) => {
-                count(tally, call);
+            Some(Outcome::Agrees(call)) => {
+                tally.count(call);
             }
-            Outcome::Differs(call) => {
-                return differs(rt, call, count(tally, call));
+            Some(Outcome::Differs(call)) => {
+                let n = tally.count(call);
+                return println!(rt; "{call:<9} case {n} differs");
             }
-            Outcome::End => {
+            Some(Outcome::Unknown(call)) => {
+                // of the numbers that are no call only 0 is counted
+                let n = u8::from(call.0 == 0);
+                return println!(rt; "{call:<9} case {n} differs");
+            }
+            None => {
                 return Ok(());
             }
         }
@@ -138,12 +175,10 @@ fn turns(rt: &impl Print, file: &mut impl io::Read, tally: &mut [u64; 6]) -> io:
 
 fn main(rt: HostRuntime) -> Result<()> {
     let mut file = fs::open(&rt, "cases").context("cases")?;
-    let mut tally = [0u64; 6];
+    let mut tally = Tally([0; 5]);
     turns(&rt, &mut file, &mut tally)?;
-    counted(&rt, 1, tally[1])?;
-    counted(&rt, 2, tally[2])?;
-    counted(&rt, 3, tally[3])?;
-    counted(&rt, 4, tally[4])?;
-    counted(&rt, 5, tally[5])?;
+    for (call, n) in CALLS.iter().zip(tally.0.iter()) {
+        println!(rt; "{call:<8} {n} cases agree")?;
+    }
     Ok(())
 }

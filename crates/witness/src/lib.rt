@@ -1,13 +1,15 @@
 // The witness: whether its ends are sound, and an oracle terminal, which pops price, time and signature and lists a check.
 #![tactic(auto)]
 
-ghost use Rattle.std.specs.Prelude.{true, ◌≡◌, List, ◌++◌, ℕ, ◌+◌, ◌-◌, ◌*◌, ◌≤◌, ◌<◌, length, take, drop};
+ghost use Rattle.std.specs.Prelude.{true, false, ◌≡◌, List, ◌++◌, ℕ, ◌+◌, ◌*◌, ◌≤◌, length, take, drop, option_map, IfOk, IfErr};
+ghost use Rattle.slices.specs.Bytes.{bytes_value};
+ghost use Rattle.semantics.specs.declared.Refusal.{Refusal};
 ghost use Rattle.semantics.specs.Evaluate.{ends_sound};
-ghost use Rattle.semantics.specs.Evaluation.{after_signature, check_bytes, check_size, in_future, oracle};
-ghost use Rattle.witness.specs.Elements.{fewer, placed, popped, taken_place, taken_witness};
-ghost use Rattle.witness.specs.Oracle.{Asks, Gives, Judges, Settles, key_at, priced, time_at};
+ghost use Rattle.semantics.specs.Evaluation.{after_signature, check_bytes, check_size, in_future, oracle, pop};
+ghost use Rattle.witness.specs.Elements.{fewer, left_of, start_of, state_of, taken, top_of};
+ghost use Rattle.witness.specs.Oracle.{Asks, Gives, priced};
 
-use semantics::{Refusal, Value};
+use semantics::Refusal;
 
 // The parts of a check: the terminal's key, and time, price and signature of the witness.
 const KEY_BYTES: usize = 32;
@@ -22,131 +24,108 @@ const SIGNATURE_AT: usize = PRICE_AT + NUMBER_BYTES;
 
 pub const CHECK_BYTES: usize = SIGNATURE_AT + SIGNATURE_BYTES;
 
-// Prices from 2^63 on have no value.
-const PRICE_LIMIT: u64 = 0x8000_0000_0000_0000;
-
-// What an evaluation has of its witness: how many elements are left, and how many checks are listed. One record is lent to every oracle terminal, and popped in place.
+// The lent witness: its bytes, and where each of its elements ends, the bottom one first.
 #[derive(Clone, Copy)]
-pub struct Witness {
+pub struct Witness<'a> {
+    pub bytes: &'a [u8],
+    pub ends: &'a [u32],
+    pub ghost sound: { ends_sound 0 (length bytes.now) ends.now ≡ true },
+}
+
+// How far an evaluation is with its witness: how many elements are left, and how many checks are listed. One record is lent to every oracle terminal, and popped in place.
+#[derive(Clone, Copy)]
+pub struct Progress {
     pub left: usize,
     pub checks: usize,
 }
 
-// Where an element that was popped starts and ends, if there was one.
+// What an oracle terminal pops, in this order.
 #[derive(Clone, Copy)]
-enum Element {
-    Missing,
-    Span(usize, usize),
-}
-
-// Where an element of the right width starts, or why there is none.
-#[derive(Clone, Copy)]
-enum Place {
-    At(usize),
-    Refused(Refusal),
-}
-
-// What an oracle terminal gives, with how many checks are listed.
-#[derive(Clone, Copy)]
-struct Judged {
-    pub value: Value,
-    pub checks: usize,
+struct Quote<'a> {
+    pub price: &'a [u8],
+    pub time: &'a [u8],
+    pub signature: &'a [u8],
 }
 
 // ---- refusal 12
 
 // Whether no end lies before the one below it, nor after the last byte.
-pub fn ends_sound(ends: &[u32], size: usize) -> bool
+fn ends_sound(ends: &[u32], size: usize) -> bool
     ensures { result ≡ ends_sound 0 size ends.now }
 {
     let mut last = 0;
-    let mut i = 0;
-    while i < ends.len() {
-        let end = ends[i] as usize;
-        if end < last {
-            return false;
-        }
-        if size < end {
+    for &end in ends {
+        let end = end as usize;
+        if end < last || size < end {
             return false;
         }
         last = end;
-        i += 1;
     }
     true
 }
 
-// ---- popping
-
-// One less; 0 stays 0.
-fn lowered(n: usize) -> usize
-    ensures { result ≡ n - 1 }
+// The witness with these bytes and ends, or its refusal.
+pub fn lent<'a>(bytes: &'a [u8], ends: &'a [u32]) -> Result<Witness<'a>, Refusal>
+    ensures ok { IfOk result (λ w. (w.bytes.now ≡ bytes.now) × (w.ends.now ≡ ends.now)) }
+    ensures err { IfErr result (λ r. (r ≡ Refusal.WitnessUnsound) × (ends_sound 0 (length bytes.now) ends.now ≡ false)) }
 {
-    if n == 0 { 0 } else { n - 1 }
+    if !ends_sound(ends, bytes.len()) {
+        return Err(Refusal::WitnessUnsound);
+    }
+    Ok(Witness { bytes, ends })
 }
 
-// The last of n elements.
-fn last_of(ends: &[u32], n: usize) -> Element
-    requires { n ≤ length ends.now }
-    ensures { result ≡ popped ends.now n }
+// ---- popping
+
+// Where element k starts.
+fn start_of(ends: &[u32], k: usize) -> usize
+    requires { k ≤ length ends.now }
+    ensures { result ≡ start_of ends.now k }
 {
-    if n == 0 {
-        return Element::Missing;
-    }
-    let k = n - 1;
-    let end = ends[k] as usize;
-    if k == 0 {
-        return Element::Span(0, end);
-    }
-    Element::Span(ends[k - 1] as usize, end)
+    if k == 0 { 0 } else { ends[k - 1] as usize }
+}
+
+// The top one of n elements.
+fn top<'a>(witness: &Witness<'a>, n: usize) -> Option<&'a [u8]>
+    requires { n ≤ length witness.now.ends.now }
+    ensures { option_map (λ e. e.now) result ≡ top_of (left_of witness.now.bytes.now witness.now.ends.now n) }
+{
+    let k = n.checked_sub(1)?;
+    let start = start_of(witness.ends, k);
+    let end = witness.ends[k] as usize;
+    Some(&witness.bytes[start..end])
 }
 
 // The top element; the lent count of those that are left falls. Every pop is this one.
-fn pop(w: &mut Witness, ends: &[u32]) -> Element
-    requires { w.old.left ≤ length ends.now }
-    ensures { (result ≡ popped ends.now w.old.left) × (w.new ≡ fewer w.old) }
+fn pop<'a>(witness: &Witness<'a>, progress: &mut Progress) -> Option<&'a [u8]>
+    requires { progress.old.left ≤ length witness.now.ends.now }
+    ensures element { option_map (λ e. e.now) result ≡ top_of (left_of witness.now.bytes.now witness.now.ends.now progress.old.left) }
+    ensures progress_after { progress.new ≡ fewer progress.old }
 {
-    let n = w.left;
-    w.left = lowered(n);
-    last_of(ends, n)
+    let element = top(witness, progress.left);
+    progress.left = progress.left.saturating_sub(1);
+    element
 }
 
-// Where an element of a width starts.
-fn place_of(element: Element, width: usize, absent: Refusal, wrong: Refusal) -> Place
-    ensures { result ≡ placed width absent wrong element }
-{
-    match element {
-        Element::Missing => Place::Refused(absent),
-        Element::Span(start, end) => {
-            if end < start {
-                return Place::Refused(wrong);
-            }
-            if end - start != width {
-                return Place::Refused(wrong);
-            }
-            Place::At(start)
-        }
-    }
-}
-
-// The top element, which must have a width; nothing is popped after a refusal.
-fn take(
-    w: &mut Witness,
-    ends: &[u32],
-    before: Place,
+// The top element, which must have a width.
+#[tactic(auto, using(crate::proofs::Left::pops))]
+fn take<'a>(
+    witness: &Witness<'a>,
+    progress: &mut Progress,
     width: usize,
     absent: Refusal,
     wrong: Refusal,
-) -> Place
-    requires { w.old.left ≤ length ends.now }
-    ensures { (result ≡ taken_place before width absent wrong ends.now w.old) × (w.new ≡ taken_witness before w.old) }
+) -> Result<&'a [u8], Refusal>
+    requires { progress.old.left ≤ length witness.now.ends.now }
+    ensures takes { (out : List ℕ) → pop width absent wrong (state_of witness.now.bytes.now witness.now.ends.now out progress.old.left progress.old.checks) ≡ taken (λ e. e.now) result (state_of witness.now.bytes.now witness.now.ends.now out progress.new.left progress.new.checks) }
+    ensures ok { IfOk result (λ e. length e.now ≡ width) }
+    ensures progress_after { progress.new ≡ fewer progress.old }
 {
-    match before {
-        Place::Refused(_) => before,
-        Place::At(_) => {
-            let element = pop(w, ends);
-            place_of(element, width, absent, wrong)
-        }
+    let element = pop(witness, progress).ok_or(absent)?;
+    if element.len() != width {
+        return Err(wrong);
     }
+    Ok(element)
 }
 
 // ---- time, check and price
@@ -155,145 +134,92 @@ fn take(
 fn in_future(terminal: u64, witness: u64) -> bool
     ensures { result ≡ in_future terminal witness }
 {
-    word64::lt(word64::signed(witness), word64::signed(terminal))
+    word64::signed(witness) < word64::signed(terminal)
 }
 
 // Check number n: the terminal's key, and time, price and signature of the witness.
-fn list_check(
-    code: &[u8],
-    at: usize,
-    witness: &[u8],
-    time: usize,
-    price: usize,
-    signature: usize,
-    out: &mut [u8],
-    n: usize,
-)
-    requires { (at + 40 ≤ length code.now) × (time + 8 ≤ length witness.now) × (price + 8 ≤ length witness.now) × (signature + 64 ≤ length witness.now) × (check_size * n + check_size ≤ length out.old) }
-    ensures { out.new ≡ take (check_size * n) out.old ++ check_bytes (key_at code.now at) (take 8 (drop time witness.now)) (take 8 (drop price witness.now)) (take 64 (drop signature witness.now)) ++ drop (check_size * n + check_size) out.old }
+fn list_check(terminal: &[u8], quote: &Quote<'_>, out: &mut [u8], n: usize)
+    requires terminal { length terminal.now ≡ 40 }
+    requires price { length quote.now.price.now ≡ 8 }
+    requires time { length quote.now.time.now ≡ 8 }
+    requires signature { length quote.now.signature.now ≡ 64 }
+    requires room { check_size * n + check_size ≤ length out.old }
+    ensures { out.new ≡ take (check_size * n) out.old ++ check_bytes (take 32 terminal.now) quote.now.time.now quote.now.price.now quote.now.signature.now ++ drop (check_size * n + check_size) out.old }
 {
     let off = CHECK_BYTES * n;
-    slices::copy(code, at, out, off, KEY_BYTES);
-    slices::copy(witness, time, out, off + KEY_BYTES, NUMBER_BYTES);
-    slices::copy(witness, price, out, off + PRICE_AT, NUMBER_BYTES);
-    slices::copy(witness, signature, out, off + SIGNATURE_AT, SIGNATURE_BYTES);
+    slices::copy(terminal, 0, out, off, KEY_BYTES);
+    slices::copy(quote.time, 0, out, off + KEY_BYTES, NUMBER_BYTES);
+    slices::copy(quote.price, 0, out, off + PRICE_AT, NUMBER_BYTES);
+    slices::copy(quote.signature, 0, out, off + SIGNATURE_AT, SIGNATURE_BYTES);
 }
 
 // A price as a value.
-fn price_value(price: u64) -> Value
+fn price_value(price: u64) -> Result<i64, Refusal>
     ensures { result ≡ priced price }
 {
-    if price < PRICE_LIMIT {
-        Value::Number(price as i64)
-    } else {
-        Value::Refused(Refusal::PriceOverflow)
-    }
+    i64::try_from(price).or(Err(Refusal::PriceOverflow))
 }
 
-// ---- the oracle terminal whose key and time stand at `at`
+// ---- an oracle terminal, by its key and time
 
-// After its three pops, which gave price, time and signature: the time is judged, the check listed, and then the price judged.
+// After its three pops: the time is judged, the check listed, and then the price judged.
 fn judge(
-    code: &[u8],
-    at: usize,
-    witness: &[u8],
-    price: usize,
-    time: usize,
-    signature: usize,
+    terminal: &[u8],
+    quote: &Quote<'_>,
     out: &mut [u8],
-    checks: usize,
-) -> Judged
-    requires { (at + 40 ≤ length code.now) × (check_size * checks + check_size ≤ length out.old) × (price + 8 ≤ length witness.now) × (time + 8 ≤ length witness.now) × (signature + 64 ≤ length witness.now) }
-    ensures { (ends : List ℕ) (left : ℕ) → Gives (after_signature (key_at code.now at) (time_at code.now at) (take 8 (drop price witness.now)) (take 8 (drop time witness.now)) (take 64 (drop signature witness.now))) witness.now ends out.old out.new (record { left = left; checks = checks }) result.value (record { left = left; checks = result.checks }) }
+    progress: &mut Progress,
+) -> Result<i64, Refusal>
+    requires terminal { length terminal.now ≡ 40 }
+    requires price { length quote.now.price.now ≡ 8 }
+    requires time { length quote.now.time.now ≡ 8 }
+    requires signature { length quote.now.signature.now ≡ 64 }
+    requires room { check_size * progress.old.checks + check_size ≤ length out.old }
+    ensures { (witness ends : List ℕ) → Gives (after_signature (take 32 terminal.now) (bytes_value (drop 32 terminal.now)) quote.now.price.now quote.now.time.now quote.now.signature.now) witness ends out.old out.new progress.old result progress.new }
 {
-    let terminal_time = slices::read_le64(code, at + KEY_BYTES);
-    let witness_time = slices::read_le64(witness, time);
-    if in_future(terminal_time, witness_time) {
-        return Judged {
-            value: Value::Refused(Refusal::TimestampInFuture),
-            checks,
-        };
+    let time = slices::read_le64(terminal, KEY_BYTES);
+    if in_future(time, slices::read_le64(quote.time, 0)) {
+        return Err(Refusal::TimestampInFuture);
     }
-    list_check(code, at, witness, time, price, signature, out, checks);
-    Judged {
-        value: price_value(slices::read_le64(witness, price)),
-        checks: checks + 1,
-    }
-}
-
-// The same by what the pops gave: a refusal of one is the refusal of those after it.
-fn settle(
-    code: &[u8],
-    at: usize,
-    witness: &[u8],
-    price: Place,
-    time: Place,
-    signature: Place,
-    out: &mut [u8],
-    checks: usize,
-) -> Judged
-    requires { Judges code.now at witness.now out.old checks price time signature }
-    ensures { Settles code.now at witness.now out.old out.new checks result price time signature }
-{
-    match signature {
-        Place::Refused(r) => Judged {
-            value: Value::Refused(r),
-            checks,
-        },
-        Place::At(s) => match price {
-            Place::Refused(r) => Judged {
-                value: Value::Refused(r),
-                checks,
-            },
-            Place::At(p) => match time {
-                Place::Refused(r) => Judged {
-                    value: Value::Refused(r),
-                    checks,
-                },
-                Place::At(t) => judge(code, at, witness, p, t, s, out, checks),
-            },
-        },
-    }
+    list_check(terminal, quote, out, progress.checks);
+    progress.checks += 1;
+    price_value(slices::read_le64(quote.price, 0))
 }
 
 // Price, then time, then signature, each judged before the next pop.
 pub fn ask(
-    code: &[u8],
-    at: usize,
-    witness: &[u8],
-    ends: &[u32],
+    terminal: &[u8],
+    witness: &Witness<'_>,
     out: &mut [u8],
-    w: &mut Witness,
-) -> Value
-    requires { Asks code.now at witness.now ends.now out.old w.old }
-    ensures { Gives (oracle (key_at code.now at) (time_at code.now at)) witness.now ends.now out.old out.new w.old result w.new }
+    progress: &mut Progress,
+) -> Result<i64, Refusal>
+    requires { Asks terminal.now witness.now.ends.now out.old progress.old }
+    ensures { Gives (oracle (take 32 terminal.now) (bytes_value (drop 32 terminal.now))) witness.now.bytes.now witness.now.ends.now out.old out.new progress.old result progress.new }
 {
     let price = take(
-        w,
-        ends,
-        Place::At(0),
+        witness,
+        progress,
         NUMBER_BYTES,
         Refusal::MissingPrice,
         Refusal::Price8BytePush,
-    );
+    )?;
     let time = take(
-        w,
-        ends,
-        price,
+        witness,
+        progress,
         NUMBER_BYTES,
         Refusal::MissingTimestamp,
         Refusal::Timstamp8BytePush,
-    );
+    )?;
     let signature = take(
-        w,
-        ends,
-        time,
+        witness,
+        progress,
         SIGNATURE_BYTES,
         Refusal::MissingOracleSignature,
         Refusal::MalformedSig,
-    );
-    let checks = w.checks;
-    let j = settle(code, at, witness, price, time, signature, out, checks);
-    w.checks = j.checks;
-    j.value
+    )?;
+    let quote = Quote {
+        price,
+        time,
+        signature,
+    };
+    judge(terminal, &quote, out, progress)
 }

@@ -1,41 +1,14 @@
--- A signed number taken apart by its sign, and equality by bits.
+-- Equality of signed numbers by their bits.
 use Prim.Native.Nat.{ℕ, suc, ◌-◌, ◌^◌}
-use mathlib.Core.Path.{◌≡◌, refl, sym, ap, ◌∙◌, subst}
+use mathlib.Core.Path.{◌≡◌, refl, ap}
 use mathlib.Core.Bool.{Bool, true, false}
 use native.Mathlib.Omega.{arith}
-use lib.Dec.{T, eqb, leb-zero}
-use lib.IntN.{ℤ, pos, negsuc, nat_abs}
-use lib.Signed.{le_z, non_neg}
+use lib.Dec.{eqb}
+use lib.IntN.{ℤ, pos, negsuc}
 use borrow.Author.Tests.{eq-eqb, ne_eqb, eqb-true, eqb-false}
 use mir.Syntax.{w64}
-use mir.Val.{Fits, SFits, to_z, of_z}
-use mir.Facts.{to_z-of_z, to_z_pos}
+use mir.Val.{SFits, of_z}
 use Rattle.word64.specs.Bits.{eq_z}
-
--- ---- a signed number, taken apart
-
--- the cast of z is allowed, and `sign` of it is a
-abbrev pub Cast : ℤ → (ℕ → ℤ) → ℤ → Type 0
-Cast z sign a = (T (non_neg z) × Fits w64 (nat_abs z)) × (sign (nat_abs z) ≡ a)
-
--- a itself where it is not negative, its bits turned over where it is
-pub up : (a : ℤ) → SFits w64 a → le_z (pos 0) (to_z w64 (of_z w64 a)) ≡ true → Cast (to_z w64 (of_z w64 a)) pos a
-up a f = rw (to_z-of_z f) (go a f)
-  where
-    go : (a : ℤ) → SFits w64 a → le_z (pos 0) a ≡ true → Cast a pos a
-    go (pos n) f t = ((tt, omega arith), refl)
-    go (negsuc n) f t = absurd (subst T (sym t) tt)
-
-pub down : (a : ℤ) → SFits w64 a → le_z (pos 0) (to_z w64 (of_z w64 a)) ≡ false → Cast (to_z w64 (2 ^ 64 - 1 - of_z w64 a)) negsuc a
-down a f = rw (to_z-of_z f) (go a f)
-  where
-    go : (a : ℤ) → SFits w64 a → le_z (pos 0) a ≡ false → Cast (to_z w64 (2 ^ 64 - 1 - of_z w64 a)) negsuc a
-    go (pos n) f t = absurd (subst T (sym (leb-zero n) ∙ t) tt)
-    go (negsuc n) f t =
-        let e : 2 ^ 64 - 1 - (2 ^ 64 - suc n) ≡ n = omega arith in
-        rw (e, to_z_pos w64 {n = n} f.sfits) ((tt, omega arith), refl)
-
--- ---- comparison of bits
 
 same : (p q r s : ℕ) → (p ≡ q → r ≡ s) → (r ≡ s → p ≡ q) → eqb p q ≡ eqb r s
 same p q r s f g = go (eqb r s) refl

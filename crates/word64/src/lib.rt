@@ -5,28 +5,23 @@ ghost use Rattle.std.specs.Prelude.{◌≡◌};
 ghost use Rattle.std.specs.Int.Signed.{lt_z, le_z};
 ghost use Rattle.word64.specs.Bits.{signed_of, bits_of, and_of, or_of, xor_of, invert_of, eq_z};
 
-// 2^63: the bits from here on are those of negative numbers.
-const HALF: u64 = 0x8000_0000_0000_0000;
-
 // ---- the bits of a signed number
 
 // The bits unchanged as a signed number: 2^63 and more become negative.
 pub fn signed(bits: u64) -> i64
     ensures { result ≡ signed_of bits }
 {
-    if bits < HALF {
-        bits as i64
-    } else {
-        !((!bits) as i64)
-    }
+    bits.cast_signed()
 }
 
 // And back.
 pub fn bits(a: i64) -> u64
     ensures { result ≡ bits_of a }
 {
-    if 0 <= a { a as u64 } else { !((!a) as u64) }
+    a.cast_unsigned()
 }
+
+// ---- operations on bits, each a function of its own, since the operations of conditions are told by these names
 
 pub fn bitand(a: i64, b: i64) -> i64
     ensures { result ≡ and_of a b }
@@ -52,7 +47,7 @@ pub fn invert(a: i64) -> i64
     !a
 }
 
-// ---- comparisons
+// ---- comparisons: like the operations on bits, each ties an operator to its definition
 
 pub fn eq(a: i64, b: i64) -> bool
     ensures { result ≡ eq_z a b }

@@ -2,16 +2,15 @@
 // the keys, where there are oracle terminals, and a third one writes the records.
 #![tactic(auto)]
 
-ghost use Rattle.std.specs.Prelude.{◌&&◌, ◌≡◌, leb, length};
-ghost use Rattle.semantics.specs.declared.Checked.{Checked};
-ghost use Rattle.semantics.specs.Check.{checked};
+ghost use Rattle.std.specs.Prelude.{Ok, ◌&&◌, ◌≡◌, ◌≤◌, leb, length};
 ghost use Rattle.semantics.specs.Records.{records_of};
 ghost use Rattle.semantics.specs.Write.{wrote};
-ghost use Rattle.condition.specs.Walk.{Passed};
-ghost use Rattle.conversions.specs.Marks.{Fits, Unmarked};
+ghost use Rattle.semantics.specs.Code.{max_tokens};
+ghost use Rattle.condition.specs.Walk.{examined};
+ghost use Rattle.conversions.specs.Marks.{Unmarked};
 
-use condition::Examined;
 use semantics::{MAX_TOKENS, Refusal, Written};
+use summary::Summary;
 
 // Conditions of so few tokens are written with smaller arrays, which take less time to make.
 const FEW_TOKENS: usize = 32;
@@ -29,40 +28,28 @@ fn has_room(
 ) -> bool
     ensures { result ≡ (leb tokens kinds && leb tokens numbers && leb tokens places && leb key_bytes keys) }
 {
-    if kinds < tokens {
-        return false;
-    }
-    if numbers < tokens {
-        return false;
-    }
-    if places < tokens {
-        return false;
-    }
-    key_bytes <= keys
+    tokens <= kinds && tokens <= numbers && tokens <= places && key_bytes <= keys
 }
 
-// Refusals 6 and 7, then the records and keys, of a condition that Check let pass; the arrays have room for as many as it has tokens, and no mark is set. `noted` has the index operands
-// that wait, and then, when they are done with, where the keys stand in the code.
+// Refusals 6 and 7, then the records and keys, of a condition that Check let pass with this summary; the arrays have room for as many as it has tokens, and no mark is set. `noted`
+// has the index operands that wait, and then, when they are done with, where the keys stand in the code.
 fn write_with(
     code: &[u8],
-    tokens: usize,
-    oracles: usize,
-    lookups: usize,
+    s: Summary,
     kinds: &mut [u8],
     numbers: &mut [u64],
     places: &mut [u32],
     keys: &mut [u8],
     noted: &mut [u16],
     marks: &mut [bool],
-) -> Written
-    requires { (checked code.now ≡ Checked.Passed tokens oracles) × Passed code.now (Fits lookups (length noted.old) (length marks.old)) × Unmarked marks.old }
+) -> Result<Written, Refusal>
+    requires { (examined code.now ≡ Ok s) × (s.tokens ≤ length noted.old) × (s.tokens ≤ length marks.old) × Unmarked marks.old }
     ensures { record { answer = result; records = records_of kinds.new numbers.new places.new keys.new } ≡ wrote code.now (records_of kinds.old numbers.old places.old keys.old) }
 {
-    if !conversions::mark(code, lookups, noted, marks) {
-        return Written::Refused(Refusal::IndexConstTooLarge);
-    }
-    let count = keys::find_keys(code, oracles, noted);
-    let key_bytes = 32 * count;
+    conversions::mark(code, s.lookups, noted, marks)?;
+    let positions = keys::find_keys(code, s.oracles, noted);
+    let tokens = s.tokens as usize;
+    let key_bytes = 32 * positions.len();
     if !has_room(
         tokens,
         key_bytes,
@@ -71,73 +58,54 @@ fn write_with(
         places.len(),
         keys.len(),
     ) {
-        return Written::Refused(Refusal::BufferTooShort);
+        return Err(Refusal::BufferTooShort);
     }
-    token_form::write_records(code, marks, noted, count, kinds, numbers, places);
-    keys::write_keys(code, noted, count, keys);
-    Written::Records {
+    token_form::write_records(code, marks, positions, kinds, numbers, places);
+    keys::write_keys(code, positions, keys);
+    Ok(Written {
         records: tokens,
         key_bytes,
-    }
+    })
 }
 
-// A condition that Check let pass, with arrays for its marks and for what is noted of its commands.
-fn write_passed(
+// The same, with arrays of N elements for the marks and for what is noted of the commands.
+fn write_within<const N: usize>(
     code: &[u8],
-    tokens: usize,
-    oracles: usize,
-    lookups: usize,
+    s: Summary,
     kinds: &mut [u8],
     numbers: &mut [u64],
     places: &mut [u32],
     keys: &mut [u8],
-) -> Written
-    requires { (checked code.now ≡ Checked.Passed tokens oracles) × Passed code.now (λ s. (s.tokens ≡ tokens) × (s.lookups ≡ lookups)) }
+) -> Result<Written, Refusal>
+    requires { (examined code.now ≡ Ok s) × (s.tokens ≤ N) × (N ≤ max_tokens) }
     ensures { record { answer = result; records = records_of kinds.new numbers.new places.new keys.new } ≡ wrote code.now (records_of kinds.old numbers.old places.old keys.old) }
 {
-    if tokens <= FEW_TOKENS {
-        let mut noted = [0; FEW_TOKENS];
-        let mut marks = [false; FEW_TOKENS];
-        return write_with(
-            code, tokens, oracles, lookups, kinds, numbers, places, keys, &mut noted, &mut marks,
-        );
-    }
-    if tokens <= SOME_TOKENS {
-        let mut noted = [0; SOME_TOKENS];
-        let mut marks = [false; SOME_TOKENS];
-        return write_with(
-            code, tokens, oracles, lookups, kinds, numbers, places, keys, &mut noted, &mut marks,
-        );
-    }
-    let mut noted = [0; MAX_TOKENS];
-    let mut marks = [false; MAX_TOKENS];
+    let mut noted = [0; N];
+    let mut marks = [false; N];
     write_with(
-        code, tokens, oracles, lookups, kinds, numbers, places, keys, &mut noted, &mut marks,
+        code, s, kinds, numbers, places, keys, &mut noted, &mut marks,
     )
 }
 
 // Writes the token form of a condition, with its keys at the front of the keys, each once, in the order of the first token that names it; or gives the first of
 // the refusals 1 to 5, 6, 7, and writes nothing.
+#[tactic(auto, using(crate::proofs::Answers::refused_first, crate::proofs::Answers::few_tokens))]
 pub fn write(
     code: &[u8],
     kinds: &mut [u8],
     numbers: &mut [u64],
     places: &mut [u32],
     keys: &mut [u8],
-) -> Written
+) -> Result<Written, Refusal>
     ensures { record { answer = result; records = records_of kinds.new numbers.new places.new keys.new } ≡ wrote code.now (records_of kinds.old numbers.old places.old keys.old) }
 {
-    match condition::examine(code) {
-        Examined::Refused(r) => Written::Refused(r),
-        Examined::Passed(s) => write_passed(
-            code,
-            s.tokens as usize,
-            s.oracles,
-            s.lookups,
-            kinds,
-            numbers,
-            places,
-            keys,
-        ),
+    let s = condition::examine(code)?;
+    let tokens = s.tokens as usize;
+    if tokens <= FEW_TOKENS {
+        return write_within::<FEW_TOKENS>(code, s, kinds, numbers, places, keys);
     }
+    if tokens <= SOME_TOKENS {
+        return write_within::<SOME_TOKENS>(code, s, kinds, numbers, places, keys);
+    }
+    write_within::<MAX_TOKENS>(code, s, kinds, numbers, places, keys)
 }

@@ -1,2 +1,0 @@
--- Laws of the list of commands.
-pub mod Bytes

@@ -1,0 +1,9 @@
+-- The step of num64, in range.
+use Rattle.std.proofs.Common.{◌∙◌, ap, to_z-of_z}
+use Rattle.index64.specs.Steps.{within}
+use Rattle.index64.proofs.Laws.{within-add}
+use Rattle.index64.proofs.step_add.Goals as goal
+
+pub returns : goal.returns
+returns c =
+    c.ranged.ensures ∙ ap within (rw (to_z-of_z c.ranges.x, to_z-of_z c.ranges.y) at c.checked_add.ensures) ∙ within-add c.args.x c.args.y
