@@ -27,7 +27,8 @@ fn is_same_key(code: &[u8], a: usize, b: usize) -> bool
     true
 }
 
-// Which of the keys at these positions is the key at `at`.
+// Which of the keys at these positions is the key at `at`. It stays out of the loops over the commands, most of which have no key: they need the registers.
+#[inline(never)]
 fn find_key(code: &[u8], at: usize, positions: &[u16]) -> Option<usize>
     requires { (at + 32 ≤ length code.now) × Inside code.now positions.now }
     ensures { result ≡ place_among (key_at code.now at) (keys_at code.now positions.now) }
@@ -56,13 +57,15 @@ fn note_key(width: usize, code: &[u8], at: usize, positions: &mut [u16], count: 
     count + 1
 }
 
-// Notes where the keys of a condition with so many oracle terminals stand in its code; without any there is nothing to look for.
-pub fn find_keys<'a>(code: &[u8], oracles: usize, positions: &'a mut [u16]) -> &'a [u16]
+// Notes where the keys of a condition with so many oracle terminals stand in its code; without any there is nothing to look for. The answer is the number of keys
+// noted, at the front of the positions; it is no slice of them, since a caller would then not know what was noted once the slice is gone.
+pub fn find_keys(code: &[u8], oracles: usize, positions: &mut [u16]) -> usize
     requires { Passed code.now (λ s. s.tokens ≤ length positions.old) × (length code.now < 2 ^ 16) × (length (code_keys code.now) ≤ oracles) }
-    ensures { KeysFound code.now result.now }
+    ensures there { result ≤ length positions.new }
+    ensures found { KeysFound code.now (take result positions.new) }
 {
     if oracles == 0 {
-        return &positions[..0];
+        return 0;
     }
     let mut at = 0;
     let mut count = 0;
@@ -73,7 +76,7 @@ pub fn find_keys<'a>(code: &[u8], oracles: usize, positions: &'a mut [u16]) -> &
         count = note_key(width, code, here.operands, positions, count);
         at = here.next;
     }
-    &positions[..count]
+    count
 }
 
 // The place of the key of a command, which has so many operand bytes at `at`, among the keys at these positions; 0 where it has none.

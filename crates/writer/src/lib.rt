@@ -47,7 +47,8 @@ fn write_with(
     ensures { record { answer = result; records = records_of kinds.new numbers.new places.new keys.new } ≡ wrote code.now (records_of kinds.old numbers.old places.old keys.old) }
 {
     conversions::mark(code, s.lookups, noted, marks)?;
-    let positions = keys::find_keys(code, s.oracles, noted);
+    let count = keys::find_keys(code, s.oracles, noted);
+    let positions = &noted[..count];
     let tokens = s.tokens as usize;
     let key_bytes = 32 * positions.len();
     if !has_room(

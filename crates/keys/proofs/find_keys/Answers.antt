@@ -21,5 +21,8 @@ note_key-count-requires c = (
 pub loop-at-preserved : goal.loop-at-preserved
 loop-at-preserved c = noting_next _ _ _ _ _ c.loop-at.invariant c.loop-at-test.true c.next-here.result c.next-here.ensures _ _ c.note_key-count.ensures
 
-pub returns : goal.returns
-returns c = noting_done _ _ _ _ _ c.loop-at.invariant c.loop-at-test.false
+pub returns-clause-there : goal.returns-clause-there
+returns-clause-there c = c.loop-at.invariant.there
+
+pub returns-clause-found : goal.returns-clause-found
+returns-clause-found c = noting_done _ _ _ _ _ c.loop-at.invariant c.loop-at-test.false
