@@ -1,13 +1,14 @@
 -- What a comparison of numbers one by one says of the whole, of a buffer that holds what is known, and of a call that was lent a part of it.
 use Prim.Native.Nat.{ℕ, zero, suc, ◌+◌, ◌-◌, ◌*◌, ◌/◌, ◌≤◌, ◌<◌}
-use mathlib.Core.Path.{◌≡◌, refl, sym, ap, ◌∙◌}
+use mathlib.Core.Path.{◌≡◌, refl, sym, ap, ap₂, ◌∙◌}
 use mathlib.Core.Bool.{Bool, true, false, ◌&&◌, false≢true, not}
 use mathlib.Core.List.{List, [], ◌∷◌, ◌++◌}
 use native.Mathlib.Nat.{mul-div-le, mul-suc, sub-zero, suc-sub-suc, zero-sub}
 use native.Mathlib.Numerals.{add-one}
 use native.Mathlib.Omega.{arith}
-use borrow.Author.Tests.{le-leb, lt-leb, not-false, not-true}
-use lib.ListN.{length, get_or, take, drop, drop_of_length-le, length-drop}
+use borrow.Author.Tests.{eqb-true, le-leb, lt-leb, not-false, not-true}
+use lib.Dec.{eqb}
+use lib.ListN.{length, get_or, take, drop, replicate, drop_of_length-le, length-drop}
 use lib.Pointwise.{pointwise}
 use lib.Seq.{drop-cons, drop-drop}
 use Rattle.std.specs.List.{list_all}
@@ -122,6 +123,21 @@ module _ {A : Type 0} (same : A → A → Bool) where
       pub begins_past : length ns ≤ i → begins_by same of k (drop (k * i) part) (drop i ns) ≡ true
       unfolding begins_by
       begins_past h = rw (drop_of_length-le ns {i = i} h)
+
+-- what a comparison that held says of the buffer
+filled_is : (f : ℕ) (xs : List ℕ) → list_all (λ x. eqb x f) xs ≡ true → xs ≡ replicate (length xs) f
+filled_is f [] e = refl
+filled_is f (x ∷ xs) e =
+    let p = and_true (eqb x f) (list_all (λ x. eqb x f) xs) e in ap₂ ◌∷◌ (eqb-true x f p.0) (filled_is f xs p.1)
+
+pub held_is : (f : ℕ) (ks xs : List ℕ) → held f ks xs ≡ true → xs ≡ ks ++ replicate (length xs - length ks) f
+unfolding held_by
+held_is f [] xs e = rw sub-zero (filled_is f xs e)
+held_is f (k ∷ ks) [] e = absurd (false≢true e)
+held_is f (k ∷ ks) (x ∷ xs) e =
+    let p = and_true (eqb x k) (held f ks xs) e in
+    let n : suc (length xs) - suc (length ks) ≡ length xs - length ks = omega arith in
+    rw n (ap₂ ◌∷◌ (eqb-true x k p.0) (held_is f ks xs p.1))
 
 -- a call that was lent the front of a fresh buffer, if it was so long
 module _ (size room : ℕ) (part ns bytes lent : List ℕ) where

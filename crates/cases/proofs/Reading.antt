@@ -17,9 +17,9 @@ use Rattle.std.specs.Prelude.{SomeIff, slice_range}
 use Rattle.std.specs.Option.{unwrap_or}
 use Rattle.std.specs.Slice.{IsGetRangeResult}
 use Rattle.std.proofs.lemmas.Slice.{between_to_end}
-use Rattle.slices.specs.Bytes.{bytes_value}
-use Rattle.slices.proofs.Bytes.{part_length, sum_is}
-use Rattle.cases.specs.Cases.{array_at, bytes_between, end_of, number_at, numbers_by, start_of}
+use Rattle.slices.specs.Bytes.{Bytes, bytes_value}
+use Rattle.slices.proofs.Bytes.{all_drop, all_take, part_length, sum_is}
+use Rattle.cases.specs.Cases.{array_at, bytes_between, end_of, number_at, numbers_by, part_of, start_of}
 
 zeros : (n : ℕ) → bytes_value (replicate n 0) ≡ 0
 unfolding bytes_value
@@ -91,27 +91,39 @@ number-drop k s at h = go (dec_le (at + k) (length s))
     go (no l) = number_past k (drop at s) 0 (rw (length-drop, zero-add) (omega arith)) ∙ sym (number_past k s at (omega arith))
 
 module _ (s : List ℕ) (from to : ℕ) where
-  there : to ≤ length s → bytes_between s from to ≡ take (to - from) (drop from s)
+  pub between_there : to ≤ length s → bytes_between s from to ≡ take (to - from) (drop from s)
   unfolding bytes_between
-  there h = rw (le-leb to (length s) h)
+  between_there h = rw (le-leb to (length s) h)
+
+  pub between_past : length s < to → bytes_between s from to ≡ []
+  unfolding bytes_between
+  between_past h = rw (lt-leb to (length s) h)
+
+  pub between_none : to ≤ from → bytes_between s from to ≡ []
+  between_none h = go (dec_le to (length s))
+    where
+      go : Dec (to ≤ length s) → bytes_between s from to ≡ []
+      go (yes l) = between_there l ∙ (let e : to - from ≡ 0 = omega arith in rw e)
+      go (no l) = between_past (omega arith)
 
   none : (to < from) ⊎ (length s < to) → bytes_between s from to ≡ []
-  unfolding bytes_between
-  none (inl h) = go (leb to (length s))
-    where
-      e : to - from ≡ 0
-      e = omega arith
-
-      go : (b : Bool) → cond b (take (to - from) (drop from s)) [] ≡ []
-      go true = rw e
-      go false = refl
-  none (inr h) = rw (lt-leb to (length s) h)
+  none (inl h) = between_none (omega arith)
+  none (inr h) = between_past h
 
   -- what `get` gives at a range, and nothing where it gives none
   pub between_got : (r : Option (Bor (List ℕ))) (empty : Bor (List ℕ)) → IsGetRangeResult s from to r → empty.now ≡ []
       → (unwrap_or r empty).now ≡ bytes_between s from to
   between_got None empty h e = e ∙ sym (none h.0)
-  between_got (Some x) empty h e = h.0.2 ∙ sym (there h.0.1)
+  between_got (Some x) empty h e = h.0.2 ∙ sym (between_there h.0.1)
+
+-- a part of bytes is bytes
+pub part_bytes : (body : List ℕ) (k : ℕ) → Bytes body → Bytes (part_of body k)
+unfolding part_of bytes_between
+part_bytes body k h = go (leb (end_of body k) (length body))
+  where
+    go : (b : Bool) → Bytes (cond b (take (end_of body k - start_of body k) (drop (start_of body k) body)) [])
+    go true = all_take (λ x. x < 256) (end_of body k - start_of body k) (drop (start_of body k) body) (all_drop (λ x. x < 256) (start_of body k) body h)
+    go false = tt
 
 pub start_first : (body : List ℕ) (k : ℕ) → k ≤ 0 → start_of body k ≡ 2 + 4 * get_or body 1 0
 unfolding start_of

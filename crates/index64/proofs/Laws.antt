@@ -16,7 +16,7 @@ outside : (z : ℤ) → 2 ^ 63 ≤ mag z → None ≡ in_range z
 outside (pos n) h = rw (lt-leb n (2 ^ 31 - 1) (omega arith))
 outside (negsuc n) h = rw (lt-leb n (2 ^ 31 - 2) (omega arith))
 
-within-fitted : (z : ℤ) → within (fitted z) ≡ in_range z
+pub within-fitted : (z : ℤ) → within (fitted z) ≡ in_range z
 within-fitted z = go (ltb (mag z) (2 ^ 63)) refl
   where
     go : (t : Bool) → ltb (mag z) (2 ^ 63) ≡ t → within (cond t (Some z) None) ≡ in_range z

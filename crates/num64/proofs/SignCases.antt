@@ -1,10 +1,10 @@
 -- Division towards zero, and Euclid's in one step from it. Where 30 and 31 don't fall, both fit in 64 bits.
-use Rattle.std.proofs.Common.{◌≡◌, ℕ, zero, suc, ◌+◌, ◌-◌, ◌*◌, ◌/◌, ◌%◌, ◌^◌, ◌<◌, ◌≤◌, Bool, true, false, eqb, ltb, ℤ, pos, negsuc, ◌+ℤ◌, ◌-ℤ◌, ◌*ℤ◌, neg_ℤ, nat_abs, ◌≤ℤ◌, ◌<ℤ◌, sym, refl, ap, ◌∙◌, true≢false, suc-le-suc, zero-le, lt_of_le_of_lt, mod-lt, zero-lt-suc, mul-zero, div-le_self, arith, le→leb, ltb→lt, lt→ltb, to_z-of_z, w64, SFits, to_z, of_z, ltb-false, ltb-true, le-ltb, lt-ltb, ne_eqb, eqb-true, Some, None}
+use Rattle.std.proofs.Common.{◌≡◌, ℕ, zero, suc, ◌+◌, ◌-◌, ◌*◌, ◌/◌, ◌%◌, ◌^◌, ◌<◌, ◌≤◌, Bool, true, false, not, T, eqb, ltb, ℤ, pos, negsuc, ◌+ℤ◌, ◌-ℤ◌, ◌*ℤ◌, neg_ℤ, nat_abs, ◌≤ℤ◌, ◌<ℤ◌, sym, refl, ap, ◌∙◌, subst, true≢false, suc-le-suc, zero-le, lt_of_le_of_lt, mod-lt, zero-lt-suc, mul-zero, div-le_self, arith, le→leb, ltb→lt, lt→ltb, to_z-of_z, w64, SFits, to_z, of_z, ltb-false, ltb-true, le-ltb, lt-ltb, ne_eqb, eqb-true, Some, None}
 use mathlib.Core.Bool.{false≢true, and-false, or-false}
 use native.Mathlib.Nat.{div-add-mod, div-lt_self}
 use borrow.Author.Tests.{eqb-false}
 use lib.IntN.{pred_ℤ, suc_ℤ, neg_ℤ-+ℤ, +ℤ_assoc, +ℤ_comm, *ℤ_comm, -ℤ_one, +ℤ_one, pred_ℤ-*ℤ, suc_ℤ-*ℤ, -ℤ-+ℤ_cancel, +ℤ-neg_ℤ_cancel}
-use lib.Signed.{mag, mag_rem, nat_abs-le, quot_z, rem_z, ≤ℤ_refl}
+use lib.Signed.{mag, mag_rem, nat_abs-le, lt_z, quot_z, rem_z, ≤ℤ_refl, lt_z_yes, lt_z_no}
 use Rattle.num64.specs.Exact.{quotient, remainder, checked_div, checked_rem}
 use Rattle.num64.specs.SignCases.{Euclidean, no_quotient}
 use Rattle.num64.proofs.Euclid.{rest_lt, both, euclid_only, only_least}
@@ -194,6 +194,16 @@ some_left (negsuc m) b h e = go (suc m % nat_abs b) e
     go : (t : ℕ) → (of_z w64 (neg_ℤ (pos t)) ≡ 0 → ⊥) → neg_ℤ (pos t) <ℤ pos 0
     go zero e = absurd (e refl)
     go (suc t) e = record { lt = tt }
+
+pub is_negative : {a : ℤ} → lt_z a (pos 0) ≡ true → a <ℤ pos 0
+is_negative e = lt_z_yes (subst T (sym e) tt)
+
+pub is_nonnegative : {a : ℤ} → lt_z a (pos 0) ≡ false → pos 0 ≤ℤ a
+is_nonnegative e = lt_z_no (subst T (sym (ap not e)) tt)
+
+pub is_positive : (a b : ℤ) → no_quotient a b ≡ false → pos 0 ≤ℤ b → pos 0 <ℤ b
+is_positive a (pos n) u h = record { lt = lt→ltb 0 n (nonzero a (pos n) u) }
+is_positive a (negsuc n) u h = absurd h.le
 
 -- ---- the operations of the code: operands and results are read from their bits
 

@@ -4,7 +4,7 @@ use mathlib.Core.Path.{◌≡◌, refl, sym, ◌∙◌, ap}
 use mathlib.Core.List.{List, [], ◌∷◌, ◌++◌, append-nil, map}
 use native.Mathlib.Nat.{zero-add}
 use native.Mathlib.Omega.{arith}
-use lib.Seq.{get_or-take, paste-suc}
+use lib.Seq.{get_or-take, length-paste, paste-suc}
 use lib.ListN.{length, get_or, set, take, drop, drop_of_length-le, length-map, get_or-map}
 use Rattle.records.specs.declared.TokenRecord.{TokenRecord}
 use Rattle.records.specs.Fields.{records_from}
@@ -20,6 +20,9 @@ blank = record { kind = 0; number = 0; place = 0 }
 pub onto-step : {A : Type 0} (i : ℕ) (xs ys : List A) (d : A) → i < length xs → i < length ys → set (onto i xs ys) i (get_or xs i d) ≡ onto (suc i) xs ys
 onto-step i xs ys d l m = simp zero-add at (paste-suc ys 0 xs i d (omega arith) l)
 
+pub onto-length : {A : Type 0} (i : ℕ) (xs ys : List A) → i ≤ length xs → i ≤ length ys → length (onto i xs ys) ≡ length ys
+onto-length i xs ys l m = simp zero-add at (length-paste ys 0 xs i (omega arith) l)
+
 -- all of the first n, whose list they then are
 pub onto_whole : {A : Type 0} (i n : ℕ) (xs ys : List A) → length (take n ys) ≡ n → i ≡ n → onto i xs (take n ys) ≡ take n xs
 onto_whole i n xs ys l e = rw (e, drop_of_length-le (take n ys) {i = n} (omega arith), append-nil)
@@ -30,6 +33,10 @@ pub field_step : (f : TokenRecord → ℕ) (n : ℕ) (rs : List TokenRecord) (ys
 field_step f n rs ys i h l m =
     rw (get_or-take n rs i blank h)
     (ap (λ (z : ℕ). set (onto i (map f rs) ys) i z) (sym (get_or-map f rs i blank)) ∙ onto-step i (map f rs) ys (f blank) (rw length-map l) m)
+
+pub field_length : (f : TokenRecord → ℕ) (rs : List TokenRecord) (ys : List ℕ) (i : ℕ) → i ≤ length rs → i ≤ length ys
+    → length (onto i (map f rs) ys) ≡ length ys
+field_length f rs ys i l m = onto-length i (map f rs) ys (rw length-map l) m
 
 -- records: record i has the fields i
 pub record_at : (ks ns ps : List ℕ) (i : ℕ) → i < length ks → i < length ns → i < length ps

@@ -1,14 +1,30 @@
--- How many wait after a command is one equation over its row (`lengths-built`).
-use Prim.Native.Nat.{ℕ, ◌+◌, ◌-◌, ◌≤◌}
+-- How many wait after a command is one equation over its row (`lengths-built`), and what it takes waits where its need is met (`need_takes`).
+use Prim.Native.Nat.{ℕ, zero, suc, ◌+◌, ◌-◌, ◌≤◌}
 use mathlib.Core.Path.{◌≡◌}
+use mathlib.Core.Bool.{true}
 use mathlib.Core.List.{List}
 use native.Mathlib.Omega.{arith}
+use borrow.Author.Tests.{eqb-true, leb-true}
+use lib.Dec.{eqb}
 use lib.ListN.{length, length-drop}
 use Rattle.semantics.specs.declared.Command.{Command}
-use Rattle.semantics.specs.Code.{Made, command_row}
+use Rattle.semantics.specs.Code.{Made, command_row, enough, need_of}
 use Rattle.semantics.specs.Parse.{Counts, Waiting, built, lengths, push_index, push_value}
 use Rattle.semantics.specs.Trees.{Expr, IdxExpr}
+use Rattle.semantics.proofs.Tests.{and_true}
 use Rattle.summary.specs.Step.{counts_after, given}
+
+enough_le : (k n : ℕ) → enough k n ≡ true → k ≤ n
+enough_le zero n e = omega arith
+enough_le (suc k) n e = leb-true (suc k) n e
+
+pub need_takes : (m : Made) (a b v i : ℕ) → need_of m a b v i ≡ true → (a ≤ v) × (b ≤ i)
+need_takes Made.nothing a b v i e = absurd (let z : ◌≡◌ {A = ℕ} 0 1 = cc in omega arith)
+need_takes Made.index a b v i e = let p = and_true (enough a v) (enough b i) e in (enough_le a v p.0, enough_le b i p.1)
+need_takes Made.value a b v i e =
+    let p = and_true (enough a v) (eqb i b) e in (enough_le a v p.0, omega (arith, eqb-true i b p.1))
+need_takes Made.condition a b v i e =
+    let p = and_true (eqb v a) (eqb i b) e in (omega (arith, eqb-true v a p.0), omega (arith, eqb-true i b p.1))
 
 -- a command makes one thing at the most
 pub given_one : (m : Made) → (given m).values + (given m).indexes + (given m).conditions ≤ 1

@@ -1,15 +1,16 @@
--- The elements that are left by their ends: the top one is a part of the bytes (`top_some`), and a pop of the definitions is one of the lent record (`pops`).
-use Rattle.std.proofs.Common.{◌≡◌, ℕ, zero, suc, ◌+◌, ◌-◌, ◌≤◌, ◌<◌, true, cond, ◌&&◌, List, [], ◌∷◌, ◌++◌, reverse, length, get_or, take, drop, eqb, leb, refl, ap, ◌∙◌, arith, Option, Some, None}
+-- The elements that are left by their ends: the top one is a part of the bytes (`top_some`), and a pop of the definitions is one of the lent record (`pops`),
+-- whose bytes, or refusal, the ends give (`pop_taken`).
+use Rattle.std.proofs.Common.{◌≡◌, ℕ, zero, suc, ◌+◌, ◌-◌, ◌≤◌, ◌<◌, Bool, true, false, cond, ◌&&◌, List, [], ◌∷◌, ◌++◌, reverse, length, get_or, take, drop, eqb, leb, refl, ap, ◌∙◌, arith, Option, Some, None, Result, Ok, Err}
 use mathlib.Core.List.{reverse-append}
-use borrow.Author.Tests.{leb-true}
+use borrow.Author.Tests.{eqb-true, leb-true}
 use lib.ListN.{length-reverse}
 use lib.Seq.{slice, length-take-le}
-use Rattle.slices.proofs.Bytes.{drop-take}
+use Rattle.slices.proofs.Bytes.{drop-take, part_length}
 use Rattle.semantics.specs.declared.Refusal.{Refusal}
 use Rattle.semantics.specs.Evaluate.{elements, ends_sound}
 use Rattle.semantics.specs.Evaluation.{Outcome, State, err, ok, pop}
 use Rattle.semantics.proofs.Tests.{and_true}
-use Rattle.witness.specs.Elements.{left_of, start_of, state_of, top_of}
+use Rattle.witness.specs.Elements.{left_of, start_of, state_of, taken, top_of}
 
 -- where element k starts, if the first starts at s
 abbrev start_from : ℕ → List ℕ → ℕ → ℕ
@@ -75,6 +76,12 @@ module _ (w ends : List ℕ) where
       let g : n ≡ suc k = omega arith in
       rw (g, left-next k (omega arith)) (ap Some (ap (λ t. slice (start_of ends k) t w) f ∙ drop-take (start_of ends k) (get_or ends k 0 - start_of ends k) w))
 
+  -- what a pop answers of n elements, by where the top one starts and ends
+  abbrev pub answered : ℕ → Refusal → Refusal → ℕ → Result (List ℕ) Refusal
+  answered width absent wrong zero = Err absent
+  answered width absent wrong (suc k) =
+      cond (eqb (get_or ends k 0 - start_of ends k) width) (Ok (take width (drop (start_of ends k) w))) (Err wrong)
+
   module _ (out : List ℕ) (checks width : ℕ) (absent wrong : Refusal) where
     abbrev pub popped : Option (List ℕ) → State → Outcome State (List ℕ)
     popped None st = err absent st
@@ -84,3 +91,18 @@ module _ (w ends : List ℕ) where
         → pop width absent wrong (state_of w ends out n checks) ≡ popped (top_of (left_of w ends n)) (state_of w ends out (n - 1) checks)
     pops zero h = rw left_none
     pops (suc k) h = let less : suc k - 1 ≡ k = omega arith in rw (less, left-next k (omega arith))
+
+    pub pop_taken : ends_sound 0 (length w) ends ≡ true → (n : ℕ) → n ≤ length ends
+        → pop width absent wrong (state_of w ends out n checks) ≡ taken (λ e. e) (answered width absent wrong n) (state_of w ends out (n - 1) checks)
+    pop_taken sound zero h = pops zero h ∙ rw (top_none 0 refl)
+    pop_taken sound (suc k) h =
+        let r = rises (length w) ends sound k (omega arith) in
+        pops (suc k) h
+        ∙ rw (top_some sound (suc k) k (omega arith) h, part_length w (start_of ends k) (get_or ends k 0 - start_of ends k) (omega (arith, r.0, r.1)))
+        (go (state_of w ends out (suc k - 1) checks) (eqb (get_or ends k 0 - start_of ends k) width) refl)
+      where
+        go : (st : State) (b : Bool) → eqb (get_or ends k 0 - start_of ends k) width ≡ b
+            → cond b (ok (take (get_or ends k 0 - start_of ends k) (drop (start_of ends k) w)) st) (err wrong st)
+            ≡ taken (λ e. e) (cond b (Ok (take width (drop (start_of ends k) w))) (Err wrong)) st
+        go st true e = rw (eqb-true (get_or ends k 0 - start_of ends k) width e)
+        go st false e = refl

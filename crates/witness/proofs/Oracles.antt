@@ -4,10 +4,12 @@ use Rattle.std.proofs.lemmas.List.{take_all}
 use lib.Seq.{drop_at, drop-drop, length_paste_head, length-take-le, paste, take_at}
 use Rattle.slices.specs.Bytes.{bytes_value}
 use Rattle.semantics.specs.declared.Refusal.{Refusal}
-use Rattle.semantics.specs.Evaluation.{Outcome, State, after_signature, check_bytes, err, in_future, ok, onward, outcome, pop}
+use Rattle.semantics.specs.Evaluate.{ends_sound}
+use Rattle.semantics.specs.Evaluation.{Outcome, State, after_price, after_signature, after_time, check_bytes, err, in_future, ok, onward, oracle, outcome, pop}
 use Rattle.witness.specs.declared.Progress.{Progress}
-use Rattle.witness.specs.Elements.{fewer, state_of}
+use Rattle.witness.specs.Elements.{fewer, state_of, taken}
 use Rattle.witness.specs.Oracle.{Gives, priced}
+use Rattle.witness.proofs.Left.{answered, pop_taken}
 
 -- an element is popped on the way to an oracle terminal's value; what is left to do (k) is done with it, if there is one
 module _ (w ends old : List ℕ) (p : Progress) (width : ℕ) (absent wrong : Refusal) (k : List ℕ → State → Outcome State ℤ) where
@@ -32,6 +34,48 @@ module _ (w ends old : List ℕ) (p : Progress) (width : ℕ) (absent wrong : Re
       let left : q.left ≡ p.left - 1 = rw f in
       let checks : q.checks ≡ p.checks = rw f in
       record { gives = rw is; fewer = omega (arith, left); more = omega (arith, checks); one = omega (arith, checks); kept = refl }
+
+-- what an oracle terminal gives, by what the ends say of each of its pops (`first`)
+module _ (w ends old new : List ℕ) (v : Result ℤ Refusal) (p' : Progress) where
+  -- K holds of the bytes that a pop gave; after a refusal nothing more is done, and q is had
+  abbrev pub Then : Result (List ℕ) Refusal → Progress → (List ℕ → Type 0) → Type 0
+  Then (Ok e) q K = K e
+  Then (Err x) q K = (v ≡ Err x) × (new ≡ old) × (p' ≡ q)
+
+  by_pop : ends_sound 0 (length w) ends ≡ true → (width : ℕ) (absent wrong : Refusal) (k : List ℕ → State → Outcome State ℤ) (K : List ℕ → Type 0) (p : Progress)
+      → p.left ≤ length ends → ((e : List ℕ) → K e → Gives (k e) w ends old new (fewer p) v p')
+      → Then (answered w ends width absent wrong p.left) (fewer p) K → Gives (λ st. onward (pop width absent wrong st) k) w ends old new p v p'
+  by_pop sound width absent wrong k K p few more settles =
+      go (answered w ends width absent wrong p.left) (pop_taken w ends old p.checks width absent wrong sound p.left few) settles
+    where
+      go : (r : Result (List ℕ) Refusal)
+          → pop width absent wrong (state_of w ends old p.left p.checks) ≡ taken (λ e. e) r (state_of w ends old (p.left - 1) p.checks)
+          → Then r (fewer p) K → Gives (λ st. onward (pop width absent wrong st) k) w ends old new p v p'
+      go (Ok e) is g = pops_found w ends old p width absent wrong k new e (fewer p) v p' refl is (more e g)
+      go (Err x) is g = rw (g.0, g.1, g.2) (pops_refused w ends old p width absent wrong k x (fewer p) refl is)
+
+  module _ (key : List ℕ) (time : ℕ) where
+    abbrev Signed : List ℕ → List ℕ → Progress → Type 0
+    Signed price witnessTime p =
+        Then (answered w ends 64 Refusal.MissingOracleSignature Refusal.MalformedSig p.left) (fewer p)
+        (λ signature. Gives (after_signature key time price witnessTime signature) w ends old new (fewer p) v p')
+
+    abbrev Timed : List ℕ → Progress → Type 0
+    Timed price p =
+        Then (answered w ends 8 Refusal.MissingTimestamp Refusal.Timstamp8BytePush p.left) (fewer p) (λ witnessTime. Signed price witnessTime (fewer p))
+
+    abbrev pub Settles : Progress → Type 0
+    Settles p = Then (answered w ends 8 Refusal.MissingPrice Refusal.Price8BytePush p.left) (fewer p) (λ price. Timed price (fewer p))
+
+    pub first : ends_sound 0 (length w) ends ≡ true → (p : Progress) → p.left ≤ length ends → Settles p → Gives (oracle key time) w ends old new p v p'
+    unfolding oracle
+    first sound p few =
+        by_pop sound 8 Refusal.MissingPrice Refusal.Price8BytePush (after_price key time) (λ price. Timed price (fewer p)) p few λ price.
+        by_pop sound 8 Refusal.MissingTimestamp Refusal.Timstamp8BytePush (after_time key time price) (λ witnessTime. Signed price witnessTime (fewer (fewer p)))
+        (fewer p) (omega arith) λ witnessTime.
+        by_pop sound 64 Refusal.MissingOracleSignature Refusal.MalformedSig (after_signature key time price witnessTime)
+        (λ signature. Gives (after_signature key time price witnessTime signature) w ends old new (fewer (fewer (fewer p))) v p')
+        (fewer (fewer p)) (omega arith) (λ signature g. g)
 
 -- copies, one behind the other
 grown : (x d s : List ℕ) (b m : ℕ) → length x ≡ b → paste (x ++ drop b d) b s m ≡ x ++ take m s ++ drop (b + m) d

@@ -50,7 +50,7 @@ struct Quote<'a> {
 // ---- refusal 12
 
 // Whether no end lies before the one below it, nor after the last byte.
-fn ends_sound(ends: &[u32], size: usize) -> bool
+pub fn ends_sound(ends: &[u32], size: usize) -> bool
     ensures { result ≡ ends_sound 0 size ends.now }
 {
     let mut last = 0;
