@@ -9,7 +9,7 @@ ghost use Rattle.productions.specs.Before.{Numbered, Whole, tokens_before};
 ghost use Rattle.productions.specs.Noted.{Fitting, Rows};
 ghost use Rattle.emission.specs.Pieces.{Noticed, Placed, bytes_of, joined, judged, lead, pieces, pieces_from, placed_piece, put, records_in, size_of, spot_of};
 
-use crate::command_at::CommandAt;
+pub use crate::command_at::CommandAt;
 use commands::{byte_of, width_of};
 use productions::{INPUT, command, kind_before, row_before, width};
 use semantics::{Command, MAX_TOKENS, Refusal, Terminal};
@@ -83,9 +83,9 @@ pub fn judge(kinds: &[u8], rows: &[u8; MAX_TOKENS], start: usize) -> Result<usiz
     // the command before `end` says itself where its tokens begin
     while start < end {
         let last = last_command(kinds, rows, end);
+        bytes += last.size();
         later |= first == Terminal::PriceOracle1;
         first = last.terminal();
-        bytes += last.size();
         end = last.first;
     }
     if first == Terminal::PriceOracle1W {

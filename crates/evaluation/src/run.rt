@@ -45,7 +45,7 @@ fn act(
 }
 
 // All commands, up to the one that ends the evaluation; arrays are lent for the operands that wait.
-pub fn run(
+fn run_commands(
     code: &[u8],
     transaction: &Transaction<'_>,
     witness: &Witness<'_>,
@@ -81,4 +81,25 @@ pub fn run(
             None => at = next,
         }
     }
+}
+
+// The same, with a progress of its own that is given back at the end: the compiler keeps it in registers, where the lent one would be read and written for each oracle
+// terminal.
+pub fn run(
+    code: &[u8],
+    transaction: &Transaction<'_>,
+    witness: &Witness<'_>,
+    out: &mut [u8],
+    values: &mut [i64],
+    indexes: &mut [i64],
+    progress: &mut Progress,
+) -> Result<bool, Refusal>
+    requires passed { Passed code.now (Room (length values.old) (length indexes.old) (length out.old)) }
+    requires progress { progress.old ≡ record { left = length witness.now.ends.now; checks = 0 } }
+    ensures { Answers out.old (fold (run_step popping (env_in transaction.now)) (Run.going [] [] (state_of witness.now.bytes.now witness.now.ends.now out.old (length witness.now.ends.now) 0)) (instructions code.now)) (record { answer = record { verdict = result; checks = progress.new.checks; left = progress.new.left }; buffer = out.new }) }
+{
+    let mut own = *progress;
+    let verdict = run_commands(code, transaction, witness, out, values, indexes, &mut own);
+    *progress = own;
+    verdict
 }

@@ -11,16 +11,64 @@ ghost use Rattle.productions.specs.Ending.{candidate_of, command_in, ends, equal
 use semantics::{AmountList, BinOp, CmpOp, Command, IdxOp, MAX_TOKENS, UnOp};
 use token_table::{TokenKind, token_row};
 
-// Kinds of tokens, as records hold them.
+// Kinds of tokens, as records hold them. What a last token may end is told by its byte in one `match`: of a kind made of the byte first, the compiler makes a test more for each token.
 const NUM: u8 = TokenKind::Num as u8;
 
+const BYTES8: u8 = TokenKind::Bytes8 as u8;
+
+const CURR_INP: u8 = TokenKind::CurrInp as u8;
+
+const ADD: u8 = TokenKind::Add as u8;
+
+const SUB: u8 = TokenKind::Sub as u8;
+
+const SCRIPT_NUM_TO_LE64: u8 = TokenKind::ScriptNumToLe64 as u8;
+
 const LE64_TO_SCRIPT_NUM: u8 = TokenKind::Le64ToScriptNum as u8;
+
+const MUL64: u8 = TokenKind::Mul64 as u8;
+
+const ADD64: u8 = TokenKind::Add64 as u8;
+
+const SUB64: u8 = TokenKind::Sub64 as u8;
+
+const NEG64: u8 = TokenKind::Neg64 as u8;
 
 const EQUAL: u8 = TokenKind::Equal as u8;
 
 const VERIFY: u8 = TokenKind::Verify as u8;
 
 const NIP: u8 = TokenKind::Nip as u8;
+
+const DROP: u8 = TokenKind::Drop as u8;
+
+const AND: u8 = TokenKind::And as u8;
+
+const OR: u8 = TokenKind::Or as u8;
+
+const XOR: u8 = TokenKind::Xor as u8;
+
+const INVERT: u8 = TokenKind::Invert as u8;
+
+const INP_VALUE: u8 = TokenKind::InpValue as u8;
+
+const OUT_VALUE: u8 = TokenKind::OutValue as u8;
+
+const FROM_ALT_STACK: u8 = TokenKind::FromAltStack as u8;
+
+const GEQ64: u8 = TokenKind::Geq64 as u8;
+
+const GE64: u8 = TokenKind::Ge64 as u8;
+
+const LEQ64: u8 = TokenKind::Leq64 as u8;
+
+const LE64: u8 = TokenKind::Le64 as u8;
+
+const SHA256: u8 = TokenKind::Sha256 as u8;
+
+const CHECK_SIG_FROM_STACK_VERIFY: u8 = TokenKind::CheckSigFromStackVerify as u8;
+
+const SWAP: u8 = TokenKind::Swap as u8;
 
 // The rows stand in runs: a constant, lookups, operations on one value, on two, oracle terminals; index terminals, index operations; what stands between
 // the operands of index mul and div; comparisons. A run is named by its first row, and some rows have names of their own; the number of rows is no row's.
@@ -159,28 +207,28 @@ fn by_last(kind: u8) -> Option<usize>
     requires { kind < 36 }
     ensures { result ≡ row_numbered (rows_before 0 kind rows) }
 {
-    match TokenKind::try_from(kind).ok()? {
-        TokenKind::Num => Some(17),
-        TokenKind::Bytes8 => Some(0),
-        TokenKind::CurrInp => Some(18),
-        TokenKind::Add => Some(19),
-        TokenKind::Sub => Some(20),
-        TokenKind::ScriptNumToLe64 => Some(23),
-        TokenKind::Le64ToScriptNum => Some(21),
-        TokenKind::Equal => Some(24),
-        TokenKind::Verify => Some(1),
-        TokenKind::Nip => Some(3),
-        TokenKind::Drop => Some(11),
-        TokenKind::And => Some(12),
-        TokenKind::Or => Some(13),
-        TokenKind::Xor => Some(14),
-        TokenKind::Invert => Some(5),
-        TokenKind::FromAltStack => Some(15),
-        TokenKind::Geq64 => Some(28),
-        TokenKind::Ge64 => Some(27),
-        TokenKind::Leq64 => Some(26),
-        TokenKind::Le64 => Some(25),
-        TokenKind::Swap => Some(16),
+    match kind {
+        NUM => Some(17),
+        BYTES8 => Some(0),
+        CURR_INP => Some(18),
+        ADD => Some(19),
+        SUB => Some(20),
+        SCRIPT_NUM_TO_LE64 => Some(23),
+        LE64_TO_SCRIPT_NUM => Some(21),
+        EQUAL => Some(24),
+        VERIFY => Some(1),
+        NIP => Some(3),
+        DROP => Some(11),
+        AND => Some(12),
+        OR => Some(13),
+        XOR => Some(14),
+        INVERT => Some(5),
+        FROM_ALT_STACK => Some(15),
+        GEQ64 => Some(28),
+        GE64 => Some(27),
+        LEQ64 => Some(26),
+        LE64 => Some(25),
+        SWAP => Some(16),
         _ => None,
     }
 }
@@ -191,17 +239,17 @@ fn by_fourth(kind: u8) -> Option<usize>
     requires { kind < 36 }
     ensures { result ≡ row_numbered (rows_before 3 kind rows) }
 {
-    match TokenKind::try_from(kind).ok()? {
-        TokenKind::Mul64 => Some(9),
-        TokenKind::Add64 => Some(7),
-        TokenKind::Sub64 => Some(8),
-        TokenKind::Neg64 => Some(6),
-        TokenKind::Equal => Some(3),
-        TokenKind::Drop => Some(4),
-        TokenKind::InpValue => Some(1),
-        TokenKind::OutValue => Some(2),
-        TokenKind::Sha256 => Some(15),
-        TokenKind::CheckSigFromStackVerify => Some(16),
+    match kind {
+        MUL64 => Some(9),
+        ADD64 => Some(7),
+        SUB64 => Some(8),
+        NEG64 => Some(6),
+        EQUAL => Some(3),
+        DROP => Some(4),
+        INP_VALUE => Some(1),
+        OUT_VALUE => Some(2),
+        SHA256 => Some(15),
+        CHECK_SIG_FROM_STACK_VERIFY => Some(16),
         _ => None,
     }
 }

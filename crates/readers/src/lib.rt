@@ -56,7 +56,8 @@ fn read_index(rows: &[u8; MAX_TOKENS], last: usize) -> Reading
     Reading::Read(end as u32)
 }
 
-// The value expression that the tokens before `last` end with: `count` are still to be read, each before the one behind it.
+// The value expression that the tokens before `last` end with: `count` are still to be read, each before the one behind it. Its runs of rows are told apart by tests that
+// go on at once, and by no `match`: after one the compiler tests the count again, also where it is the same, which a list of operations on one value pays for each token.
 fn read_value(rows: &[u8; MAX_TOKENS], last: usize) -> Reading
     requires { Fitting rows.now last }
     ensures { Answers rows.now last result (λ ts. reading_of (expr_from_tokens ts)) }
@@ -68,26 +69,36 @@ fn read_value(rows: &[u8; MAX_TOKENS], last: usize) -> Reading
             return Reading::Nothing;
         };
         end -= width(row);
-        match row {
-            ..LOOKUPS => count -= 1,
-            ..UNARIES => {
-                let Reading::Read(start) = read_index(rows, end) else {
-                    return Reading::Nothing;
-                };
-                end = start as usize;
-                count -= 1;
-            }
-            ..BINARIES => {}
-            ..BIT_OPERATIONS => {
-                let Reading::Read(middle) = read_value(rows, end) else {
-                    return Reading::Nothing;
-                };
-                end = middle as usize;
-            }
-            ..ORACLES => count += 1,
-            ..INDEXES => count -= 1,
-            _ => return Reading::Nothing,
+        if row < LOOKUPS {
+            count -= 1;
+            continue;
         }
+        if row < UNARIES {
+            let Reading::Read(start) = read_index(rows, end) else {
+                return Reading::Nothing;
+            };
+            end = start as usize;
+            count -= 1;
+            continue;
+        }
+        if row < BINARIES {
+            continue;
+        }
+        if row < BIT_OPERATIONS {
+            let Reading::Read(middle) = read_value(rows, end) else {
+                return Reading::Nothing;
+            };
+            end = middle as usize;
+            continue;
+        }
+        if row < ORACLES {
+            count += 1;
+            continue;
+        }
+        if INDEXES <= row {
+            return Reading::Nothing;
+        }
+        count -= 1; // an oracle terminal has no operand
     }
     Reading::Read(end as u32)
 }

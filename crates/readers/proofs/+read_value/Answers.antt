@@ -12,8 +12,8 @@ returns-in_default t c =
     loop_nothing values _ _ _ value_one _ _ c.loop-count.invariant
     λ r p. value_beyond r _ _ (p.noted _ c.loop-count.invariant.low) (omega arith) _ c.loop-count-test.true
 
-pub returns-in_default-row : goal.returns-in_default-row
-returns-in_default-row t c =
+pub returns-then-row-ge-INDEXES : goal.returns-then-row-ge-INDEXES
+returns-then-row-ge-INDEXES t c =
     let turn : Turn values _ _ _ _ _ _ = turn_of c.requires c.loop-count.invariant c.loop-count-test.true c.row_before.ensures c.in-Some.is c.width-end.ensures in
     loop_nothing values _ _ _ value_one _ _ c.loop-count.invariant
     λ r p. value_beyond r _ _ (turn.row ∙ p.noted _ c.loop-count.invariant.low) (omega arith) _ c.loop-count-test.true
@@ -26,37 +26,37 @@ returns-in_default-read_index t c =
     λ r p. lookup_none r _ _ _ (found turn r p) (omega arith) (omega arith) _ (c.read_index.ensures.right r (before_rows turn r p)) c.in_default-read_index.is _
     c.loop-count-test.true
 
-pub loop-count-smaller-then-row-lt5 : goal.loop-count-smaller-then-row-lt5
-loop-count-smaller-then-row-lt5 t c =
+pub loop-count-smaller-then-row-lt-UNARIES : goal.loop-count-smaller-then-row-lt-UNARIES
+loop-count-smaller-then-row-lt-UNARIES t c =
     let turn : Turn values _ _ _ _ _ _ = turn_of c.requires c.loop-count.invariant c.loop-count-test.true c.row_before.ensures c.in-Some.is c.width-end.ensures in
     omega (arith, own turn, c.read_index.ensures.within _ c.in-Read.is)
 
-pub loop-count-preserved-then-row-lt5 : goal.loop-count-preserved-then-row-lt5
-loop-count-preserved-then-row-lt5 t c =
+pub loop-count-preserved-then-row-lt-UNARIES : goal.loop-count-preserved-then-row-lt-UNARIES
+loop-count-preserved-then-row-lt-UNARIES t c =
     let turn : Turn values _ _ _ _ _ _ = turn_of c.requires c.loop-count.invariant c.loop-count-test.true c.row_before.ensures c.in-Some.is c.width-end.ensures in
     let low = c.read_index.ensures.within _ c.in-Read.is in
     loop_turn values _ _ _ _ _ _ c.loop-count.invariant (omega (arith, own turn)) (omega (arith, own turn))
     λ r p. lookup_read r _ _ _ (found turn r p) (omega arith) (omega arith) _ (c.read_index.ensures.right r (before_rows turn r p)) _ c.in-Read.is _ c.loop-count-test.true
 
 -- an operation on one value, and one of one token on two
-pub loop-count-smaller-then-row-lt7 : goal.loop-count-smaller-then-row-lt7
-loop-count-smaller-then-row-lt7 t c =
+pub loop-count-smaller-then-row-lt-BINARIES : goal.loop-count-smaller-then-row-lt-BINARIES
+loop-count-smaller-then-row-lt-BINARIES t c =
     let turn : Turn values _ _ _ _ _ _ = turn_of c.requires c.loop-count.invariant c.loop-count-test.true c.row_before.ensures c.in-Some.is c.width-end.ensures in
     omega (arith, own turn)
 
-pub loop-count-preserved-then-row-lt7 : goal.loop-count-preserved-then-row-lt7
-loop-count-preserved-then-row-lt7 t c =
+pub loop-count-preserved-then-row-lt-BINARIES : goal.loop-count-preserved-then-row-lt-BINARIES
+loop-count-preserved-then-row-lt-BINARIES t c =
     let turn : Turn values _ _ _ _ _ _ = turn_of c.requires c.loop-count.invariant c.loop-count-test.true c.row_before.ensures c.in-Some.is c.width-end.ensures in
     loop_turn values _ _ _ _ _ _ c.loop-count.invariant (omega (arith, own turn)) (omega (arith, own turn))
     λ r p. value_unary r _ _ _ (found turn r p) (omega arith) (omega arith) _ c.loop-count-test.true
 
-pub loop-count-smaller-then-row-lt15 : goal.loop-count-smaller-then-row-lt15
-loop-count-smaller-then-row-lt15 t c =
+pub loop-count-smaller-then-row-lt-ORACLES : goal.loop-count-smaller-then-row-lt-ORACLES
+loop-count-smaller-then-row-lt-ORACLES t c =
     let turn : Turn values _ _ _ _ _ _ = turn_of c.requires c.loop-count.invariant c.loop-count-test.true c.row_before.ensures c.in-Some.is c.width-end.ensures in
     omega (arith, own turn)
 
-pub loop-count-preserved-then-row-lt15 : goal.loop-count-preserved-then-row-lt15
-loop-count-preserved-then-row-lt15 t c =
+pub loop-count-preserved-then-row-lt-ORACLES : goal.loop-count-preserved-then-row-lt-ORACLES
+loop-count-preserved-then-row-lt-ORACLES t c =
     let turn : Turn values _ _ _ _ _ _ = turn_of c.requires c.loop-count.invariant c.loop-count-test.true c.row_before.ensures c.in-Some.is c.width-end.ensures in
     loop_turn values _ _ _ _ _ _ c.loop-count.invariant (omega (arith, own turn)) (omega (arith, own turn))
     λ r p. value-counted r _ _ _ (found turn r p) (omega arith) (omega arith) _ c.loop-count-test.true
@@ -74,13 +74,13 @@ returns-in_default-read_value t c =
     λ r p. binary_none r _ _ _ (found turn r p) (omega arith) (omega arith) _ (c.read_value.ensures.right r (before_rows turn r p)) c.in_default-read_value.is _
     c.loop-count-test.true
 
-pub loop-count-smaller-then-row-lt12 : goal.loop-count-smaller-then-row-lt12
-loop-count-smaller-then-row-lt12 t c =
+pub loop-count-smaller-then-row-lt-BIT_OPERATIONS : goal.loop-count-smaller-then-row-lt-BIT_OPERATIONS
+loop-count-smaller-then-row-lt-BIT_OPERATIONS t c =
     let turn : Turn values _ _ _ _ _ _ = turn_of c.requires c.loop-count.invariant c.loop-count-test.true c.row_before.ensures c.in-Some.is c.width-end.ensures in
     omega (arith, own turn, c.read_value.ensures.within _ c.in-Read-read_value.is)
 
-pub loop-count-preserved-then-row-lt12 : goal.loop-count-preserved-then-row-lt12
-loop-count-preserved-then-row-lt12 t c =
+pub loop-count-preserved-then-row-lt-BIT_OPERATIONS : goal.loop-count-preserved-then-row-lt-BIT_OPERATIONS
+loop-count-preserved-then-row-lt-BIT_OPERATIONS t c =
     let turn : Turn values _ _ _ _ _ _ = turn_of c.requires c.loop-count.invariant c.loop-count-test.true c.row_before.ensures c.in-Some.is c.width-end.ensures in
     let low = c.read_value.ensures.within _ c.in-Read-read_value.is in
     loop_turn values _ _ _ _ _ _ c.loop-count.invariant (omega (arith, own turn)) (omega (arith, own turn))
@@ -88,13 +88,13 @@ loop-count-preserved-then-row-lt12 t c =
     c.loop-count-test.true
 
 -- a constant, and an oracle
-pub loop-count-smaller-in-0 : goal.loop-count-smaller-in-0
-loop-count-smaller-in-0 t c =
+pub loop-count-smaller-then-row-lt-LOOKUPS : goal.loop-count-smaller-then-row-lt-LOOKUPS
+loop-count-smaller-then-row-lt-LOOKUPS t c =
     let turn : Turn values _ _ _ _ _ _ = turn_of c.requires c.loop-count.invariant c.loop-count-test.true c.row_before.ensures c.in-Some.is c.width-end.ensures in
     omega (arith, own turn)
 
-pub loop-count-preserved-in-0 : goal.loop-count-preserved-in-0
-loop-count-preserved-in-0 t c =
+pub loop-count-preserved-then-row-lt-LOOKUPS : goal.loop-count-preserved-then-row-lt-LOOKUPS
+loop-count-preserved-then-row-lt-LOOKUPS t c =
     let turn : Turn values _ _ _ _ _ _ = turn_of c.requires c.loop-count.invariant c.loop-count-test.true c.row_before.ensures c.in-Some.is c.width-end.ensures in
     loop_turn values _ _ _ _ _ _ c.loop-count.invariant (omega (arith, own turn)) (omega (arith, own turn))
     λ r p. value-const r _ _ _ (found turn r p) (omega arith) _ c.loop-count-test.true

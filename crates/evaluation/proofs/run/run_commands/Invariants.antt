@@ -2,7 +2,7 @@
 use Rattle.std.proofs.Common.{◌-◌, length}
 use Rattle.amounts.specs.Transactions.{env_in}
 use Rattle.evaluation.proofs.Loop.{Turn}
-use Rattle.evaluation.proofs.run.run.Given as goal
+use Rattle.evaluation.proofs.run.run_commands.Given as goal
 
 abbrev pub invariant-loop-verdict : goal.invariant-loop-verdict
 invariant-loop-verdict l =

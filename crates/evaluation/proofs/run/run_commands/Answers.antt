@@ -1,7 +1,7 @@
 -- A turn is `act`, by what it answers (`loop_next`, `loop_verdict`, `loop_refused`).
 use Rattle.std.proofs.Common.{◌≡◌, ◌∙◌, Err, Ok, ap, arith}
 use Rattle.evaluation.proofs.Loop.{loop_next, loop_refused, loop_start, loop_verdict, turn_of}
-use Rattle.evaluation.proofs.run.run.Goals as goal
+use Rattle.evaluation.proofs.run.run_commands.Goals as goal
 
 pub loop-verdict-init : goal.loop-verdict-init
 loop-verdict-init c =
