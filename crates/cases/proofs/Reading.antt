@@ -141,6 +141,10 @@ within k n i h =
     let up : k * suc i ≤ k * (n / k) = mul-le-mul_left k (omega arith) in
     omega (arith, up, mul-div-le n k, mul-suc k i)
 
+-- how many numbers of k bytes stand whole in n bytes and have room, where the code divides by m, which is k
+pub count_is : (room n m k : ℕ) {count : ℕ} → count ≡ min room (n / m) → m ≡ k → count ≡ min room (n / k)
+count_is room n m k e h = rw h at e
+
 -- the numbers of a part
 module _ {A : Type 0} (of : ℕ → A) (k : ℕ) where
   pub length_numbers : (n : ℕ) (part : List ℕ) → length (numbers_by of k n part) ≡ n

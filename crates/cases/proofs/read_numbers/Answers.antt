@@ -1,8 +1,8 @@
 -- One number more at the front; and all that there is room for.
-use Rattle.std.proofs.Common.{◌≡◌, ◌/◌, arith, length, min, refl, take}
+use Rattle.std.proofs.Common.{◌≡◌, arith, length, refl, take}
 use Rattle.std.proofs.lemmas.List.{length-take-le}
 use Rattle.cases.specs.Cases.{numbers_by}
-use Rattle.cases.proofs.Reading.{put_all, put_more}
+use Rattle.cases.proofs.Reading.{count_is, put_all, put_more}
 use Rattle.cases.proofs.read_numbers.Goals as goal
 
 pub loop-i-init : goal.loop-i-init
@@ -11,13 +11,13 @@ loop-i-init g c = refl
 
 pub loop-i-preserved : goal.loop-i-preserved
 loop-i-preserved g c =
-    let count : c.min-count.result ≡ min (length c.args.out.now) (length c.part-part.result.now / g.T.Number.SIZE) = rw c.SIZE.ensures at c.min-count.ensures in
+    let count = count_is (length c.args.out.now) (length c.part-part.result.now) _ g.T.Number.SIZE c.min-count.ensures (omega (arith, g.met.T.Number.not_empty)) in
     let long : length (take c.min-count.result c.args.out.now) ≡ c.min-count.result = length-take-le c.min-count.result c.args.out.now (omega arith) in
     put_more g.T.Number.of g.T.Number.SIZE c.part-part.result.now c.loop-i.number-items c.loop-i.i _ (omega arith) (omega arith) c.nth.ensures c.loop-i.invariant
 
 pub returns : goal.returns
 returns g c =
-    let count : c.min-count.result ≡ min (length c.args.out.now) (length c.part-part.result.now / g.T.Number.SIZE) = rw c.SIZE.ensures at c.min-count.ensures in
+    let count = count_is (length c.args.out.now) (length c.part-part.result.now) _ g.T.Number.SIZE c.min-count.ensures (omega (arith, g.met.T.Number.not_empty)) in
     let long : length (take c.min-count.result c.args.out.now) ≡ c.min-count.result = length-take-le c.min-count.result c.args.out.now (omega arith) in
     let here : c.loop-i.i ≡ c.min-count.result = omega arith in
     rw (← c.part-part.ensures)
