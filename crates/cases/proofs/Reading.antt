@@ -4,7 +4,7 @@ use mathlib.Core.Bool.{Bool, cond, true, false}
 use mathlib.Core.Path.{◌≡◌, refl, sym, ap, ◌∙◌}
 use mathlib.Core.List.{List, [], ◌∷◌, ◌++◌}
 use native.Mathlib.Decide.{dec_le}
-use native.Mathlib.Nat.{min-zero, mul_comm, mul-suc, mul-zero, mul-div-le, mul-le-mul_left, suc-min-suc, zero-add, zero-min}
+use native.Mathlib.Nat.{div-mul-le_self, min-zero, mul_comm, mul-suc, mul-zero, mul-div-le, mul-le-mul_left, suc-min-suc, zero-add, zero-min}
 use native.Mathlib.Numerals.{add-one}
 use native.Mathlib.Omega.{arith}
 use borrow.Author.Tests.{le-leb, lt-leb}
@@ -16,6 +16,7 @@ use Rattle.std.specs.Int.{byte_worth, sum_through}
 use Rattle.std.specs.Prelude.{SomeIff, slice_range}
 use Rattle.std.specs.Option.{unwrap_or}
 use Rattle.std.specs.Slice.{IsGetRangeResult}
+use Rattle.std.proofs.lemmas.Nat.{le-div}
 use Rattle.std.proofs.lemmas.Slice.{between_to_end}
 use Rattle.slices.specs.Bytes.{Bytes, bytes_value}
 use Rattle.slices.proofs.Bytes.{all_drop, all_take, part_length, sum_is}
@@ -142,8 +143,16 @@ within k n i h =
     omega (arith, up, mul-div-le n k, mul-suc k i)
 
 -- how many numbers of k bytes stand whole in n bytes and have room, where the code divides by m, which is k
-pub count_is : (room n m k : ℕ) {count : ℕ} → count ≡ min room (n / m) → m ≡ k → count ≡ min room (n / k)
-count_is room n m k e h = rw h at e
+module _ (room n m k : ℕ) {count : ℕ} (e : count ≡ min room (n / m)) where
+  pub count_is : m ≡ k → count ≡ min room (n / k)
+  count_is h = rw h at e
+
+  -- no more than stand there, where m is k or more
+  pub count_most : 0 < k → k ≤ m → count ≤ n / k
+  count_most h l =
+      let up : n / m * k ≤ n / m * m = mul-le-mul_left (n / m) l in
+      let most : n / m ≤ n / k = le-div (n / m) n k h (omega (arith, up, div-mul-le_self n m)) in
+      omega (arith, e)
 
 -- the numbers of a part
 module _ {A : Type 0} (of : ℕ → A) (k : ℕ) where

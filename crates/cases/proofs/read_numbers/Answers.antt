@@ -2,7 +2,7 @@
 use Rattle.std.proofs.Common.{◌≡◌, arith, length, refl, take}
 use Rattle.std.proofs.lemmas.List.{length-take-le}
 use Rattle.cases.specs.Cases.{numbers_by}
-use Rattle.cases.proofs.Reading.{count_is, put_all, put_more}
+use Rattle.cases.proofs.Reading.{count_is, count_most, put_all, put_more}
 use Rattle.cases.proofs.read_numbers.Goals as goal
 
 pub loop-i-init : goal.loop-i-init
@@ -11,7 +11,7 @@ loop-i-init g c = refl
 
 pub loop-i-preserved : goal.loop-i-preserved
 loop-i-preserved g c =
-    let count = count_is (length c.args.out.now) (length c.part-part.result.now) _ g.T.Number.SIZE c.min-count.ensures (omega (arith, g.met.T.Number.not_empty)) in
+    let most = count_most (length c.args.out.now) (length c.part-part.result.now) _ g.T.Number.SIZE c.min-count.ensures g.met.T.Number.not_empty (omega arith) in
     let long : length (take c.min-count.result c.args.out.now) ≡ c.min-count.result = length-take-le c.min-count.result c.args.out.now (omega arith) in
     put_more g.T.Number.of g.T.Number.SIZE c.part-part.result.now c.loop-i.number-items c.loop-i.i _ (omega arith) (omega arith) c.nth.ensures c.loop-i.invariant
 
