@@ -17,6 +17,7 @@ loop-i-preserved g c =
 
 pub returns : goal.returns
 returns g c =
+    -- no size is 0, so that it is proved too where the code divides by the greater of the size and 1: the edit half_of_the_four_bytes with the right value
     let count = count_is (length c.args.out.now) (length c.part-part.result.now) _ g.T.Number.SIZE c.min-count.ensures (omega (arith, g.met.T.Number.not_empty)) in
     let long : length (take c.min-count.result c.args.out.now) ≡ c.min-count.result = length-take-le c.min-count.result c.args.out.now (omega arith) in
     let here : c.loop-i.i ≡ c.min-count.result = omega arith in
